@@ -1,4 +1,5 @@
 // The plain data of a plan: ports, flows, paths, masks and burst rows, with their limits, before any check.
+pub mod draft;
 pub mod flow;
 pub mod limits;
 pub mod mask;
@@ -7,6 +8,7 @@ pub mod path;
 pub mod port;
 pub mod table;
 
+pub use draft::Draft;
 pub use flow::Flow;
 pub use mask::Mask;
 pub use parts::Parts;

@@ -8,12 +8,3 @@ pub struct Port {
     pub stay: u32,
     pub shortest: u32,
 }
-
-impl Port {
-    pub const NONE: Port = Port {
-        rate: 0,
-        latency: 0,
-        stay: 0,
-        shortest: 0,
-    };
-}

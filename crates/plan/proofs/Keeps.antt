@@ -3,14 +3,14 @@ use Prim.Native.Nat.{ℕ, zero, suc, _+_, _/_, _^_, _≤_, _<_}
 use mathlib.Core.Bool.{Bool, true, false, cond, not, _&&_, _||_}
 use mathlib.Core.Logic.{_⊎_, inl, inr, ⊎-elim}
 use mathlib.Core.Path.{_≡_, refl, sym, ap, subst, _∙_}
-use native.Mathlib.Decide.{ℕ-discrete}
+use native.Mathlib.Decide.{decLe, ℕ-discrete}
 use native.Mathlib.Nat.{mod-lt}
 use native.Mathlib.Omega.{arith}
 use lib.Dec.{eqb, leb, lit<, ltb}
 use lib.ListN.{getD}
 use Rattle.std.proofs.shelf.Tests.{and-from, and-left, and-parts, and-right, both-ways, cases-bool, cases-lt, lt-leb, not-from-true, or-cases, or-left, or-right, eqb-true, eqb-false, le-leb, leb-true, lt-ltb, le-ltb, ltb-true, cond-true, cond-false, not-true, ne-eqb, eq-eqb, not-from-false}
 use Rattle.std.proofs.shelf.Ways.{tells}
-use Rattle.std.specs.Results.{isOk}
+use Rattle.std.specs.Results.{Cases, isOk}
 use Rattle.std.specs.declared.result.Result.{Result}
 use Rattle.std.specs.declared.result.Result.the-variants.{Ok, Err}
 use Rattle.rounding.specs.Quotients.{up}
@@ -85,14 +85,15 @@ bit-fits-from w k h free =
     (λ t. not-from-false (regulated (w .mask) k && (eqb k 0 || leb (hops w) k)) (and-right (regulated (w .mask) k) (eqb k 0 || leb (hops w) k) t))
     (cases-bool (eqb k 0 || leb (hops w) k))
 
-flow-kept : (P : Parts) (f : ℕ) → flow-answer P f ≡ Ok tt → FlowKept P (P .size .ports) (flow-at P f) × (regulators-of P (suc f) ≤ 32)
+flow-kept : (P : Parts) (f : ℕ) → flow-answer P f ≡ Ok tt → FlowKept P (P .size .ports) (flow-at P f) × (regulators-of P (suc f) ≤ 32) × (f < 64)
 flow-kept P f e =
     let w = flow-at P f in
     let n = P .size .ports in
-    let a = then-ok (unless (bucket-fits w) (Bucket f)) _ e in
+    let a = then-ok (unless (ltb f 64 && bucket-fits w) (Bucket f)) _ e in
     let b = then-ok (unless (path-fits n w) (Path f)) _ (a .1) in
     let c = then-ok (unless (all-below (frame-fits P w) (hops w)) (Frames f)) _ (b .1) in
-    let bucket : bucket-fits w ≡ true = passed (bucket-fits w) (Bucket f) (a .0) in
+    let first = and-parts (ltb f 64) (bucket-fits w) (passed (ltb f 64 && bucket-fits w) (Bucket f) (a .0)) in
+    let bucket : bucket-fits w ≡ true = first .1 in
     let path = and-parts (leb 1 (hops w) && leb (hops w) 8) (all-below (byte-fits n w) 8) (passed (path-fits n w) (Path f) (b .0)) in
     let ends = and-parts (leb 1 (hops w)) (leb (hops w) 8) (path .0) in
     let least : 1 ≤ hops w = leb-true 1 (hops w) (ends .0) in
@@ -118,7 +119,19 @@ flow-kept P f e =
         rest-free = λ k h l. bit-free w k l (inr h) (bits k l);
       },
       leb-true (regulators-of P (suc f)) 32 (masks .1),
+      ltb-true f 64 (first .0),
     )
+
+port-kept-at : (P : Parts) (p : ℕ) → port-answer P p ≡ Ok tt → PortKept (port-at P p) × (p < 32)
+port-kept-at P p e =
+    let q = port-at P p in
+    let t = then-ok (unless (ltb p 32 && figures-fit q) (Figures p)) _ e in
+    let a = and-parts (ltb p 32) (figures-fit q) (passed (ltb p 32 && figures-fit q) (Figures p) (t .0)) in
+    (port-kept q (a .1) (passed (stay-fits q) (Stay p) (t .1)), ltb-true p 32 (a .0))
+
+-- numbers that stay below m are at most m many
+at-most : (n m : ℕ) → ((k : ℕ) → k < n → k < m) → n ≤ m
+at-most n m h = elim (decLe n m) [ yes le ↦ le | no gt ↦ absurd (omega (arith, h m (omega arith))) ]
 
 regulators-rise : (P : Parts) (n f : ℕ) → f ≤ n → regulators-of P f ≤ regulators-of P n
 regulators-rise P zero f h = let z : f ≡ 0 = omega arith in rw z (omega arith)
@@ -129,22 +142,24 @@ few-regulators : (P : Parts) (n : ℕ) → ((f : ℕ) → f < n → regulators-o
 few-regulators P zero h = omega arith
 few-regulators P (suc n) h = h n (omega arith)
 
+pub few-ports : (P : Parts) → first-refusal (port-answer P) (P .size .ports) ≡ Ok tt → P .size .ports ≤ 32
+few-ports P e = at-most (P .size .ports) 32 (λ p h. port-kept-at P p (first-refusal-each (port-answer P) (P .size .ports) e p h) .1)
+
+pub few-flows : (P : Parts) → first-refusal (flow-answer P) (P .size .flows) ≡ Ok tt → P .size .flows ≤ 64
+few-flows P e = at-most (P .size .flows) 64 (λ f h. flow-kept P f (first-refusal-each (flow-answer P) (P .size .flows) e f h) .2)
+
 -- where no fault is found, every limit is kept
 pub kept-of : (P : Parts) → faultless P ≡ true → Kept P
 kept-of P e =
     let np = P .size .ports in
     let nf = P .size .flows in
-    let a = and-parts (leb np 32 && leb nf 64) (isOk (limits-answer P)) e in
-    let sizes = and-parts (leb np 32) (leb nf 64) (a .0) in
-    let b = then-ok (first-refusal (port-answer P) np) _ (ok-from (limits-answer P) (a .1)) in
+    let b = then-ok (first-refusal (port-answer P) np) _ (ok-from (limits-answer P) e) in
     let d = then-ok (first-refusal (flow-answer P) nf) (first-refusal (rates-answer P) np) (b .1) in
-    let flow : (f : ℕ) → f < nf → FlowKept P np (flow-at P f) × (regulators-of P (suc f) ≤ 32) = λ f h. flow-kept P f (first-refusal-each (flow-answer P) nf (d .0) f h) in
+    let flow : (f : ℕ) → f < nf → FlowKept P np (flow-at P f) × (regulators-of P (suc f) ≤ 32) × (f < 64) = λ f h. flow-kept P f (first-refusal-each (flow-answer P) nf (d .0) f h) in
     record {
-      ports-most = leb-true np 32 (sizes .0);
-      flows-most = leb-true nf 64 (sizes .1);
-      ports = λ p h.
-          let t = then-ok (unless (figures-fit (port-at P p)) (Figures p)) _ (first-refusal-each (port-answer P) np (b .0) p h) in
-          port-kept (port-at P p) (passed (figures-fit (port-at P p)) (Figures p) (t .0)) (passed (stay-fits (port-at P p)) (Stay p) (t .1));
+      ports-most = few-ports P (b .0);
+      flows-most = few-flows P (d .0);
+      ports = λ p h. port-kept-at P p (first-refusal-each (port-answer P) np (b .0) p h) .0;
       flows = λ f h. flow f h .0;
       regulators-most = few-regulators P nf (λ f h. flow f h .1);
       rates = λ p h.
@@ -152,10 +167,12 @@ kept-of P e =
           (passed (leb (rates-through P p) (port-at P p .rate)) (Rates p) (first-refusal-each (rates-answer P) np (d .1) p h));
     }
 
-passes : (b : Bool) (e : PlanFault) → b ≡ true → unless b e ≡ Ok tt
+-- what passes is not refused
+pub passes : (b : Bool) (e : PlanFault) → b ≡ true → unless b e ≡ Ok tt
 passes b e h = cond-true b (Ok tt) (Err e) h
 
-thens : (a b : Result (Unit {0}) PlanFault) → a ≡ Ok tt → b ≡ Ok tt → and-then a b ≡ Ok tt
+-- neither refuses, so both together do not
+pub thens : (a b : Result (Unit {0}) PlanFault) → a ≡ Ok tt → b ≡ Ok tt → and-then a b ≡ Ok tt
 thens a b h k = ap (λ r. and-then r b) h ∙ k
 
 figures-from : (q : Port) → PortKept q → figures-fit q ≡ true
@@ -180,11 +197,11 @@ byte-from P n w kept k h = ⊎-elim
     (λ past. cond-false (ltb k (hops w)) _ _ (le-ltb k (hops w) past) ∙ eq-eqb (hop-port w k) 255 (kept .unused k past h))
     (cases-lt k (hops w))
 
-flow-from : (P : Parts) (f : ℕ) → FlowKept P (P .size .ports) (flow-at P f) → regulators-of P (suc f) ≤ 32 → flow-answer P f ≡ Ok tt
-flow-from P f kept few =
+flow-from : (P : Parts) (f : ℕ) → f < 64 → FlowKept P (P .size .ports) (flow-at P f) → regulators-of P (suc f) ≤ 32 → flow-answer P f ≡ Ok tt
+flow-from P f h kept few =
     let w = flow-at P f in
     let n = P .size .ports in
-    thens _ _ (passes (bucket-fits w) (Bucket f) (bucket-from P n w kept))
+    thens _ _ (passes (ltb f 64 && bucket-fits w) (Bucket f) (and-from (ltb f 64) (bucket-fits w) (lt-ltb f 64 h) (bucket-from P n w kept)))
     (thens _ _ (passes (path-fits n w) (Path f) (and-from _ _ (and-from _ _ (le-leb 1 (hops w) (kept .hops-least)) (le-leb (hops w) 8 (kept .hops-most))) (all-below-from (byte-fits n w) 8 (byte-from P n w kept))))
     (thens _ _ (passes (all-below (frame-fits P w) (hops w)) (Frames f) (all-below-from (frame-fits P w) (hops w) (λ k h. le-leb (port-at P (hop-port w k) .shortest) (w .shortest) (kept .fits k h))))
     (passes (mask-fits w && leb (regulators-of P (suc f)) 32) (Mask f)
@@ -200,7 +217,16 @@ limits-ok P k =
     thens _ _
     (first-refusal-from (port-answer P) np (λ p h.
     let q = port-at P p in
-    thens _ _ (passes (figures-fit q) (Figures p) (figures-from q (k .ports p h))) (passes (stay-fits q) (Stay p) (le-leb (q .stay) (q .latency + up (q .shortest) (q .rate)) (k .ports p h .stay-most)))))
+    thens _ _ (passes (ltb p 32 && figures-fit q) (Figures p) (and-from (ltb p 32) (figures-fit q) (lt-ltb p 32 (omega (arith, k .ports-most))) (figures-from q (k .ports p h)))) (passes (stay-fits q) (Stay p) (le-leb (q .stay) (q .latency + up (q .shortest) (q .rate)) (k .ports p h .stay-most)))))
     (thens _ _
-    (first-refusal-from (flow-answer P) nf (λ f h. flow-from P f (k .flows f h) (omega (arith, regulators-rise P nf (suc f) (omega arith), k .regulators-most))))
+    (first-refusal-from (flow-answer P) nf (λ f h. flow-from P f (omega (arith, k .flows-most)) (k .flows f h) (omega (arith, regulators-rise P nf (suc f) (omega arith), k .regulators-most))))
     (first-refusal-from (rates-answer P) np (λ p h. passes (leb (rates-through P p) (port-at P p .rate)) (Rates p) (le-leb (rates-through P p) (port-at P p .rate) (k .rates p h)))))
+
+-- a plan with a fault does not keep every limit
+pub fault-of : (P : Parts) (e : PlanFault) → limits-answer P ≡ Err e → Kept P → ⊥
+fault-of P e h k = let o = limits-ok P k in let z : _≡_ {A = ℕ} 0 1 = cc in omega arith
+
+-- no fault is found exactly where every limit is kept
+pub exact-of : (P : Parts) (r : Result (Unit {0}) PlanFault) → r ≡ limits-answer P → Cases r (λ _. Kept P) (λ _. Kept P → ⊥)
+exact-of P (Ok tt) e = kept-of P (ap isOk (sym e))
+exact-of P (Err x) e = fault-of P x (sym e)

@@ -26,8 +26,10 @@ figures-fit q = leb 1 (q .rate) && leb (q .rate) 10000 && leb (q .latency) 10000
 abbrev pub stay-fits : Port → Bool
 stay-fits q = leb (q .stay) (q .latency + up (q .shortest) (q .rate))
 
+-- port p, among at most 32
 abbrev pub port-answer : Parts → ℕ → Result (Unit {0}) PlanFault
-port-answer P p = and-then (unless (figures-fit (port-at P p)) (Figures p)) (unless (stay-fits (port-at P p)) (Stay p))
+port-answer P p =
+    let q = port-at P p in and-then (unless (ltb p 32 && figures-fit q) (Figures p)) (unless (stay-fits q) (Stay p))
 
 abbrev pub bucket-fits : Flow → Bool
 bucket-fits w =
@@ -55,10 +57,11 @@ bit-fits w k = not (regulated (w .mask) k && (eqb k 0 || leb (hops w) k))
 abbrev pub mask-fits : Flow → Bool
 mask-fits w = all-below (bit-fits w) 8
 
+-- flow f, among at most 64; the regulators are counted in the order of the flows
 abbrev pub flow-answer : Parts → ℕ → Result (Unit {0}) PlanFault
 flow-answer P f =
     let w = flow-at P f in
-    and-then (unless (bucket-fits w) (Bucket f))
+    and-then (unless (ltb f 64 && bucket-fits w) (Bucket f))
     (and-then (unless (path-fits (P .size .ports) w) (Path f))
     (and-then (unless (all-below (frame-fits P w) (hops w)) (Frames f))
     (unless (mask-fits w && leb (regulators-of P (suc f)) 32) (Mask f))))
@@ -72,6 +75,6 @@ limits-answer P =
     and-then (first-refusal (port-answer P) (P .size .ports))
     (and-then (first-refusal (flow-answer P) (P .size .flows)) (first-refusal (rates-answer P) (P .size .ports)))
 
--- as many ports and flows as a plan may have, and no fault
+-- no fault
 abbrev pub faultless : Parts → Bool
-faultless P = leb (P .size .ports) 32 && leb (P .size .flows) 64 && isOk (limits-answer P)
+faultless P = isOk (limits-answer P)

@@ -1,6 +1,10 @@
 // Plans that keep the limits, and what is wrong with those that do not.
 pub mod fault;
+mod flows;
+mod path;
 pub mod plan;
+mod ports;
+mod rates;
 
 pub use fault::PlanFault;
 pub use plan::Plan;

@@ -5,6 +5,8 @@ ghost use lib.ListN.{length};
 ghost use Rattle.plan.specs.Checks.{faultless};
 use draft::Parts;
 
+mod check;
+
 // Ports and flows that keep the limits.
 #[derive(Clone, Copy)]
 pub struct Plan {

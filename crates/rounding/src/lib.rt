@@ -7,6 +7,7 @@ fn ceiling(a: u64, b: u64) -> u64
     requires { ⌜ 0 < b ⌝ }
     ensures value { λ r. ⌜ r ≡ up a b ⌝ }
     ensures least { λ r. ⌜ LeastCover a b r ⌝ }
+    ensures within { λ r. ⌜ r ≤ a ⌝ }
     ensures rises { λ r. ⌜ ((c : ℕ) → a ≤ c → r ≤ up c b) ⌝ }
     ensures shifts { λ r. ⌜ ((s : ℕ) → up (s * b + a) b ≡ s + r) ⌝ }
 {
@@ -18,6 +19,7 @@ fn ceiling(a: u64, b: u64) -> u64
 pub fn up(a: u64, b: u64) -> u64
     ensures value { λ r. ⌜ r ≡ up a b ⌝ }
     ensures least { λ r. ⌜ (0 < b → LeastCover a b r) ⌝ }
+    ensures within { λ r. ⌜ r ≤ a ⌝ }
     ensures rises { λ r. ⌜ ((c : ℕ) → a ≤ c → r ≤ up c b) ⌝ }
     ensures shifts { λ r. ⌜ (0 < b → (s : ℕ) → up (s * b + a) b ≡ s + r) ⌝ }
 {

@@ -1,5 +1,6 @@
 use mathlib.Core.Path.{_≡_, sym, ap, subst, _∙_}
 use Prim.Native.Nat.{ℕ, _+_}
+use native.Mathlib.Nat.{mul-le-mul-left}
 use native.Mathlib.Omega.{arith}
 use Rattle.rounding.specs.Quotients.{LeastCover, up}
 use Rattle.rounding.proofs.Ceilings.{up-by-rest, up-covers, up-least, up-rises, up-shifts}
@@ -14,6 +15,7 @@ returns c =
       value = e;
       least = let P : ℕ → Type 0 = λ q. LeastCover a b q in
           subst P (sym e) (record { covers = up-covers a b (c .pre); least = λ p h. up-least a b p (c .pre) h });
+      within = omega (arith, up-least a b a (c .pre) (omega (arith, mul-le-mul-left {m = 1} {n = b} a (c .pre))));
       rises = λ x h. omega (arith, up-rises a x b h);
       shifts = λ s. up-shifts s a b (c .pre) ∙ ap (λ n. s + n) (sym e);
     }

@@ -9,6 +9,7 @@ returns-then-b-eq0 c =
     record {
       value = sym (ap (up (c .args .a)) (c .if-b-eq0 .taken) ∙ up-none (c .args .a));
       least = λ h. absurd (omega arith);
+      within = omega arith;
       rises = λ x h. omega arith;
       shifts = λ h. absurd (omega arith);
     }
