@@ -11,15 +11,15 @@ use Rattle.std.specs.declared.result.Result.the-variants.{Ok, Err}
 use Rattle.refusal.specs.Firsts.{all-below, and-then, first-refusal}
 
 -- a loop over tests: one more passes
-pub all-below-more : (b : ℕ → Bool) (k : ℕ) → all-below b k ≡ true → true ≡ b k → all-below b (k + 1) ≡ true
-all-below-more b k e h = rw add-one (and-from (all-below b k) (b k) e (sym h))
+pub all-below-more : (b : ℕ → Bool) (k : ℕ) → all-below b k ≡ true → b k ≡ true → all-below b (k + 1) ≡ true
+all-below-more b k e h = rw add-one (and-from (all-below b k) (b k) e h)
 
 -- it ends, and all have passed
 pub all-below-done : (b : ℕ → Bool) (n k : ℕ) → n ≤ k → k ≤ n → all-below b k ≡ true → true ≡ all-below b n
 all-below-done b n k l h e = let q : k ≡ n = omega arith in sym (subst (λ (i : ℕ). all-below b i ≡ true) q e)
 
 -- one fails
-all-below-fails : (b : ℕ → Bool) (n k : ℕ) → k < n → b k ≡ false → all-below b n ≡ false
+pub all-below-fails : (b : ℕ → Bool) (n k : ℕ) → k < n → b k ≡ false → all-below b n ≡ false
 all-below-fails b zero k h e = absurd (omega arith)
 all-below-fails b (suc n) k h e = elim (ℕ-discrete k n) [
   | yes q ↦ and-right (all-below b n) (b n) (sym (ap b q) ∙ e)
@@ -44,23 +44,24 @@ all-below-from b (suc n) h =
     ap (λ x. x && b n) (all-below-from b n (λ k l. h k (omega arith))) ∙ h n (omega arith)
 
 -- a loop over tests: one more refuses nothing
-pub first-refusal-more : {E : Type 0} (F : ℕ → Result (Unit {0}) E) (k : ℕ) → first-refusal F k ≡ Ok tt → Ok tt ≡ F k → first-refusal F (k + 1) ≡ Ok tt
-first-refusal-more F k e h = rw add-one (ap (λ r. and-then r (F k)) e ∙ sym h)
+pub first-refusal-more : {E : Type 0} (F : ℕ → Result (Unit {0}) E) (k : ℕ) → first-refusal F k ≡ Ok tt → F k ≡ Ok tt → first-refusal F (k + 1) ≡ Ok tt
+first-refusal-more F k e h = rw add-one (ap (λ r. and-then r (F k)) e ∙ h)
 
 -- it ends, and nothing is refused
 pub first-refusal-done : {E : Type 0} (F : ℕ → Result (Unit {0}) E) (n k : ℕ) → n ≤ k → k ≤ n → first-refusal F k ≡ Ok tt → Ok tt ≡ first-refusal F n
 first-refusal-done F n k l h e = let q : k ≡ n = omega arith in sym (subst (λ (i : ℕ). first-refusal F i ≡ Ok tt) q e)
 
-refused-at : {E : Type 0} (F : ℕ → Result (Unit {0}) E) (n k : ℕ) (x : E) → k < n → first-refusal F k ≡ Ok tt → F k ≡ Err x → first-refusal F n ≡ Err x
-refused-at F zero k x h e r = absurd (omega arith)
-refused-at F (suc n) k x h e r = elim (ℕ-discrete k n) [
+-- nothing below k is refused and k is, so its refusal is the first
+pub first-refusal-at : {E : Type 0} (F : ℕ → Result (Unit {0}) E) (n k : ℕ) (x : E) → k < n → first-refusal F k ≡ Ok tt → F k ≡ Err x → first-refusal F n ≡ Err x
+first-refusal-at F zero k x h e r = absurd (omega arith)
+first-refusal-at F (suc n) k x h e r = elim (ℕ-discrete k n) [
   | yes q ↦ ap (λ y. and-then y (F n)) (subst (λ (i : ℕ). first-refusal F i ≡ Ok tt) q e) ∙ subst (λ (i : ℕ). F i ≡ Err x) q r
-  | no q ↦ ap (λ y. and-then y (F n)) (refused-at F n k x (omega arith) e r)
+  | no q ↦ ap (λ y. and-then y (F n)) (first-refusal-at F n k x (omega arith) e r)
 ]
 
 -- it stops, since one refuses
 pub first-refusal-stop : {E : Type 0} (F : ℕ → Result (Unit {0}) E) (n k : ℕ) (x : E) → k < n → first-refusal F k ≡ Ok tt → Err x ≡ F k → Err x ≡ first-refusal F n
-first-refusal-stop F n k x h e r = sym (refused-at F n k x h e (sym r))
+first-refusal-stop F n k x h e r = sym (first-refusal-at F n k x h e (sym r))
 
 -- both refuse nothing
 pub then-ok : {E : Type 0} (a b : Result (Unit {0}) E) → and-then a b ≡ Ok tt → (a ≡ Ok tt) × (b ≡ Ok tt)

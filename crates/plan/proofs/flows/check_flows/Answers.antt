@@ -17,7 +17,7 @@ returns-in-Break-regulators c =
 pub loop-f-again : need.loop-f-again
 loop-f-again c =
     let t = c .in-Continue-regulators .ensures tt in
-    (first-refusal-more (flow-answer (c .args .parts .now)) (c .loop-f .f) (c .loop-f .inv .0) (sym (t .0)), t .1, t .2)
+    (first-refusal-more (flow-answer (c .args .parts .now)) (c .loop-f .f) (c .loop-f .inv .0) (t .0), t .1, t .2)
 
 pub returns : need.returns
 returns c =

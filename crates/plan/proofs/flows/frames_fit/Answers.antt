@@ -1,3 +1,4 @@
+use mathlib.Core.Path.{sym}
 use Rattle.draft.specs.Plans.{hops}
 use Rattle.refusal.proofs.Orders.{all-below-done, all-below-more, all-below-stop}
 use Rattle.plan.specs.Checks.{frame-fits}
@@ -9,4 +10,4 @@ returns-then-not-frame-fits c =
 
 pub loop-hop-again : need.loop-hop-again
 loop-hop-again c =
-    all-below-more (frame-fits (c .args .parts .now) (c .args .flow)) (c .loop-hop .hop) (c .loop-hop .inv) (c .if-not-frame-fits .ensures tt)
+    all-below-more (frame-fits (c .args .parts .now) (c .args .flow)) (c .loop-hop .hop) (c .loop-hop .inv) (sym (c .if-not-frame-fits .ensures tt))

@@ -1,5 +1,5 @@
 use mathlib.Core.Bool.{not, _&&_}
-use mathlib.Core.Path.{ap}
+use mathlib.Core.Path.{ap, sym}
 use lib.Dec.{eqb, ltb}
 use Rattle.draft.specs.Plans.{hop-port, hops}
 use Rattle.refusal.proofs.Orders.{all-below-done, all-below-more, all-below-stop}
@@ -15,7 +15,7 @@ pub loop-hop-again : need.loop-hop-again
 loop-hop-again c =
     let w = c .args .flow in
     let p = c .args .port in
-    all-below-more (λ k. not (ltb k (hops w) && eqb (hop-port w k) p)) (c .loop-hop .hop) (c .loop-hop .inv) (c .if-not-misses .ensures tt)
+    all-below-more (λ k. not (ltb k (hops w) && eqb (hop-port w k) p)) (c .loop-hop .hop) (c .loop-hop .inv) (sym (c .if-not-misses .ensures tt))
 
 pub returns : need.returns
 returns c =

@@ -1,3 +1,4 @@
+use mathlib.Core.Path.{sym}
 use mathlib.Core.Bool.{not}
 use lib.Dec.{eqb}
 use Rattle.draft.specs.Plans.{hop-port}
@@ -14,4 +15,4 @@ pub loop-j-again : need.loop-j-again
 loop-j-again c =
     let w = c .args .flow in
     let k = c .args .hop in
-    all-below-more (λ j. not (eqb (hop-port w j) (hop-port w k))) (c .loop-j .j) (c .loop-j .inv) (c .if-not-differ .ensures tt)
+    all-below-more (λ j. not (eqb (hop-port w j) (hop-port w k))) (c .loop-j .j) (c .loop-j .inv) (sym (c .if-not-differ .ensures tt))

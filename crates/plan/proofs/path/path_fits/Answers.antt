@@ -16,7 +16,7 @@ returns-then-not-byte-fits c =
 
 pub loop-hop-again : need.loop-hop-again
 loop-hop-again c =
-    all-below-more (byte-fits (c .args .ports) (c .args .flow)) (c .loop-hop .hop) (c .loop-hop .inv) (c .if-not-byte-fits .ensures tt)
+    all-below-more (byte-fits (c .args .ports) (c .args .flow)) (c .loop-hop .hop) (c .loop-hop .inv) (sym (c .if-not-byte-fits .ensures tt))
 
 pub returns : need.returns
 returns c =

@@ -15,7 +15,7 @@ returns-in-Break-check-port c =
     })
 
 pub loop-p-again : need.loop-p-again
-loop-p-again c = first-refusal-more (port-answer (c .args .parts .now)) (c .loop-p .p) (c .loop-p .inv) (c .in-Continue-check-port .ensures tt)
+loop-p-again c = first-refusal-more (port-answer (c .args .parts .now)) (c .loop-p .p) (c .loop-p .inv) (sym (c .in-Continue-check-port .ensures tt))
 
 pub returns : need.returns
 returns c =

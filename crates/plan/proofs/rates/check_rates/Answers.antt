@@ -23,4 +23,4 @@ loop-p-again c =
     let P = c .args .parts .now in
     let p = c .loop-p .p in
     let fits : rates-through P p ≤ port-at P p .rate = omega (arith, c .if-rates-through-from .left, c .from .ensures, c .rates-through .ensures) in
-    first-refusal-more (rates-answer P) p (c .loop-p .inv) (sym (passes (leb (rates-through P p) (port-at P p .rate)) (Rates p) (le-leb (rates-through P p) (port-at P p .rate) fits)))
+    first-refusal-more (rates-answer P) p (c .loop-p .inv) (passes (leb (rates-through P p) (port-at P p .rate)) (Rates p) (le-leb (rates-through P p) (port-at P p .rate) fits))

@@ -1,0 +1,48 @@
+-- Delays and gaps of ports, place by place.
+use Prim.Native.Nat.{ℕ, _+_, _-_, _*_, _≤_, _<_}
+use mathlib.Core.Bool.{Bool, true, false, cond}
+use mathlib.Core.List.{List}
+use mathlib.Core.Path.{_≡_, refl, ap, _∙_}
+use native.Mathlib.Nat.{le-mul-of-pos-right}
+use native.Mathlib.Omega.{arith}
+use lib.Dec.{ltb}
+use lib.ListN.{getD, length}
+use Rattle.std.proofs.shelf.Counted.{getD-map-counting, length-map-counting}
+use Rattle.std.proofs.shelf.Tests.{lt-ltb}
+use Rattle.rounding.specs.Quotients.{up}
+use Rattle.rounding.proofs.Ceilings.{up-least}
+use Rattle.draft.specs.Plans.{port-at}
+use Rattle.draft.specs.declared.parts.Parts.{Parts}
+use Rattle.draft.specs.declared.table.Table.{Table}
+use Rattle.plan.specs.Limits.{rates-through}
+use Rattle.table.specs.Loads.{backlog, delay, delay-by, delays, gap, gaps, load}
+
+pub delays-long : (P : Parts) (t : Table) → length (delays P t) ≡ 32
+unfolding delays
+delays-long P t = length-map-counting (delay P t) 0 32
+
+pub delays-at : (P : Parts) (t : Table) (p : ℕ) → p < 32 → getD (delays P t) p 0 ≡ delay P t p
+unfolding delays
+delays-at P t p h = getD-map-counting (delay P t) 0 32 p p 0 h (omega arith)
+
+pub gaps-at : (P : Parts) (t : Table) (p : ℕ) → p < 32 → getD (gaps P t) p 0 ≡ gap P t p
+unfolding gaps
+gaps-at P t p h = getD-map-counting (gap P t) 0 32 p p 0 h (omega arith)
+
+pub up-few : (a b : ℕ) → 1 ≤ b → up a b ≤ a
+up-few a b h = up-least a b a h (le-mul-of-pos-right a h)
+
+-- what is left of D where m is taken from the plan's ports alone
+pub gap-from : (P : Parts) (t : Table) (ds : List ℕ) (n p : ℕ) → p < 32 → n ≡ P .size .ports → ds ≡ delays P t
+    → cond (ltb p n) (getD ds p 0 - port-at P p .stay) (getD ds p 0) ≡ gap P t p
+gap-from P t ds n p h e q =
+    let a : getD ds p 0 ≡ delay P t p = ap (λ (l : List ℕ). getD l p 0) q ∙ delays-at P t p h in
+    rw (e, a) (both (ltb p (P .size .ports)) (delay-by (port-at P p) (load P t p)) (port-at P p .stay))
+  where
+    both : (b : Bool) (d s : ℕ) → cond b (cond b d 0 - s) (cond b d 0) ≡ cond b d 0 - s
+    both true d s = refl
+    both false d s = omega arith
+
+pub backlog-at : (P : Parts) (t : Table) (p r b : ℕ) → p < P .size .ports → b ≡ load P t p → r ≡ b + rates-through P p * delay-by (port-at P p) b → r ≡ backlog P t p
+backlog-at P t p r b h e q =
+    q ∙ ap (λ (x : ℕ). x + rates-through P p * delay-by (port-at P p) x) e ∙ (rw (lt-ltb p (P .size .ports) h))

@@ -1,0 +1,18 @@
+use Prim.Native.Nat.{ℕ, _+_, _*_}
+use mathlib.Core.Path.{_≡_, refl, sym, ap, _∙_}
+use native.Mathlib.Omega.{arith}
+use lib.ListN.{getD}
+use Rattle.std.proofs.shelf.Tests.{le-ltb}
+use Rattle.draft.specs.Plans.{port-at}
+use Rattle.plan.specs.Limits.{rates-through}
+use Rattle.table.specs.Loads.{delay-by, load}
+use Rattle.table.proofs.Figures.{ports-few}
+use Rattle.table.proofs.Rows.{backlog-at}
+use Rattle.table.proofs.loads.backlog.Needs as need
+
+pub returns : need.returns
+returns c =
+    let P = c .args .plan .now .parts in
+    let p = c .args .p in
+    let within = ports-few P (c .args .plan .now .kept) p (c .if-p-plan .left) in
+    record { value = backlog-at P (c .args .table .now) p (c .backlog-by .result) (getD (c .loads .result) p 0) (c .if-p-plan .left) (c .loads .ensures .value p within) (c .backlog-by .ensures .value) }

@@ -1,0 +1,55 @@
+-- What the two calls answer: a proposal's quote, and the least table's with the scratch that then holds it.
+use Prim.Native.Nat.{ℕ, _/_, _%_}
+use mathlib.Core.Bool.{Bool, cond, _||_}
+use mathlib.Core.List.{List, _++_, map}
+use lib.Dec.{eqb, ltb}
+use lib.ListN.{drop, length}
+use Rattle.std.specs.Iters.{counting}
+use Rattle.std.specs.declared.result.Result.{Result}
+use Rattle.std.specs.declared.result.Result.the-variants.{Ok, Err}
+use Rattle.refusal.specs.Firsts.{and-then}
+use Rattle.draft.specs.Plans.{cell}
+use Rattle.draft.specs.declared.parts.Parts.{Parts}
+use Rattle.draft.specs.declared.table.Proposal.{Proposal}
+use Rattle.draft.specs.declared.table.Table.{Table}
+use Rattle.table.specs.Checks.{crowds-answer, table-answer}
+use Rattle.table.specs.Rounds.{gives, search}
+use Rattle.table.specs.declared.fault.TableFault.{TableFault}
+use Rattle.table.specs.declared.fault.TableFault.the-variants.{Rounds, Rows, Scratch}
+use Rattle.table.specs.declared.search.Found.{Found}
+use Rattle.table.specs.declared.quotes.Quote.{Quote}
+
+-- a quote's plan, table and rounds
+pub record Quoted : Type 0 where
+  pub parts : Parts
+  pub table : Table
+  pub rounds : ℕ
+
+-- what an answer tells
+abbrev pub told : Result Quote TableFault → Result Quoted TableFault
+told (Ok q) = Ok (record { parts = q .plan .parts; table = q .table; rounds = q .rounds })
+told (Err e) = Err e
+
+abbrev pub quote-answer : Parts → Proposal → Result Quoted TableFault
+quote-answer P x =
+    cond (eqb (x .rows) (P .size .flows))
+    (gives (table-answer P (x .table)) (record { parts = P; table = x .table; rounds = 0 }))
+    (Err (Rows (x .rows)))
+
+-- what was found, unless it is crowded
+abbrev pub found-answer : Parts → Found → Result Quoted TableFault
+found-answer P u =
+    gives (and-then (u .answer) (crowds-answer P (u .table))) (record { parts = P; table = u .table; rounds = u .rounds })
+
+abbrev pub least-answer : Parts → ℕ → ℕ → Result Quoted TableFault
+least-answer P n room =
+    cond (ltb n 1 || ltb 100000 n) (Err Rounds) (cond (ltb room 512) (Err Scratch) (found-answer P (search P n)))
+
+-- a table's cells, row after row
+unfoldable pub flat : Table → List ℕ
+flat t = map (λ i. cell t (i / 8) (i % 8)) (counting 0 512)
+
+-- the last table made, and then the rest as it was
+abbrev pub scratch-after : Parts → ℕ → List ℕ → List ℕ
+scratch-after P n xs =
+    cond (ltb n 1 || ltb 100000 n) xs (cond (ltb (length xs) 512) xs (flat (search P n .table) ++ drop 512 xs))
