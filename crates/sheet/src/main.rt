@@ -1,4 +1,7 @@
 // Reads a plan file on standard input and prints its quote sheet.
+ghost use Prim.Native.Nat.{_≤_};
+ghost use lib.ListN.{length};
+ghost use Rattle.std.specs.Vec.{made};
 use printing::print;
 use std::io;
 use std::io::Read;
@@ -8,10 +11,12 @@ use std::io::Write;
 const LONGEST: usize = 8192;
 
 // Reads until the input ends or the buffer is full; tells how many bytes came.
-fn fill(rt: &LibcRuntime, buffer: &mut [u8; LONGEST]) -> io::Result<usize> {
+fn fill(rt: &LibcRuntime, buffer: &mut [u8]) -> io::Result<usize>
+    ensures { λ r. ⌜ made r (λ n. n ≤ length (now (buffer .entry))) ⌝ }
+{
     let mut input = rt.stdin();
     let mut have = 0;
-    for _ in 0..LONGEST {
+    for _turn in 0..buffer.len() {
         let got = input.read(&mut buffer[have..])?;
         if got == 0 {
             break;
