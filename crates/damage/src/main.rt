@@ -29,10 +29,18 @@ fn fill(rt: &LibcRuntime, buffer: &mut [u8]) -> io::Result<usize>
 // One line: what was done, and the refusal or the rounds.
 fn tell(rt: &LibcRuntime, what: &str, place: usize, value: usize, bytes: &[u8]) -> io::Result<()> {
     match quote_of(bytes) {
-        Ok(quote) => println!(rt, "{what} {place} {value}: accepted, rounds {}", quote.rounds),
+        Ok(quote) => println!(
+            rt,
+            "{what} {place} {value}: accepted, rounds {}",
+            quote.rounds
+        ),
         Err(fault) => {
             let refusal = fault.refusal();
-            println!(rt, "{what} {place} {value}: {} at {}", refusal.number, refusal.place)
+            println!(
+                rt,
+                "{what} {place} {value}: {} at {}",
+                refusal.number, refusal.place
+            )
         }
     }
 }
@@ -69,7 +77,13 @@ fn copies(rt: &LibcRuntime, kind: u8, body: usize, count: u8) -> io::Result<()> 
     for b in [0, 0, 0, count] {
         file.push(b)?;
     }
-    tell(rt, "copies", usize::from(kind), usize::from(count), file.as_slice())
+    tell(
+        rt,
+        "copies",
+        usize::from(kind),
+        usize::from(count),
+        file.as_slice(),
+    )
 }
 
 fn main(rt: LibcRuntime) -> io::Result<()> {

@@ -2,3 +2,4 @@ pub mod Counts
 pub mod Faults
 pub mod Records
 pub mod Reads
+pub mod Writes

@@ -1,1 +1,4 @@
 pub mod Faults
+pub mod Prints
+pub mod Lines
+pub mod Sheets

@@ -1,34 +1,77 @@
 // Text and numbers at the end of a queue of bytes.
+ghost use Prim.Native.Nat.{_+_, _<_};
+ghost use mathlib.Core.List.{[], _∷_};
 ghost use mathlib.Core.Path.{_≡_};
-ghost use Rattle.line.specs.Queues.{room};
+ghost use denote.Ref.{name};
+ghost use lib.ListN.{length};
+ghost use Rattle.std.specs.Written.{decimal};
+ghost use Rattle.printing.specs.Lines.{ended, field, line};
+ghost use Rattle.printing.specs.Prints.{Printed, Room};
 use line::Queue;
 
-pub(crate) fn text(out: &mut Queue<u8>, bytes: &[u8])
-    ensures { λ _. ⌜ room (now (out .exit)) ≡ room (now (out .entry)) ⌝ }
+fn byte(out: &mut Queue<u8>, b: u8)
+    requires { ⌜ Room (now out) 1 ⌝ }
+    ensures owner { λ _. ⌜ name (now (out .exit) .places) ≡ name (now (out .entry) .places) ⌝ }
+    ensures after { λ _. ⌜ Printed (now (out .entry)) (b ∷ []) (now (out .exit)) ⌝ }
+{
+    let _ = out.push(b);
+}
+
+fn text(out: &mut Queue<u8>, bytes: &[u8])
+    requires { ⌜ Room (now out) (length (now bytes)) ⌝ }
+    ensures owner { λ _. ⌜ name (now (out .exit) .places) ≡ name (now (out .entry) .places) ⌝ }
+    ensures after { λ _. ⌜ Printed (now (out .entry)) (now (bytes .entry)) (now (out .exit)) ⌝ }
 {
     for b in bytes {
-        let _ = out.push(*b);
+        byte(out, *b);
     }
 }
 
 // A number in decimal digits.
-pub(crate) fn number(out: &mut Queue<u8>, n: u64)
-    ensures { λ _. ⌜ room (now (out .exit)) ≡ room (now (out .entry)) ⌝ }
+fn number(out: &mut Queue<u8>, n: u64)
+    requires { ⌜ Room (now out) (length (decimal n)) ⌝ }
+    ensures owner { λ _. ⌜ name (now (out .exit) .places) ≡ name (now (out .entry) .places) ⌝ }
+    ensures after { λ _. ⌜ Printed (now (out .entry)) (decimal n) (now (out .exit)) ⌝ }
 {
-    if n >= 10 {
-        number(out, n / 10);
+    if n < 10 {
+        byte(out, b'0' + n as u8);
+        return;
     }
-    let _ = out.push(b'0' + (n % 10) as u8);
+    number(out, n / 10);
+    byte(out, b'0' + (n % 10) as u8);
 }
 
-// A word and numbers, each after a blank, and the end of the line.
-pub(crate) fn line(out: &mut Queue<u8>, word: &[u8], numbers: &[u64])
-    ensures { λ _. ⌜ room (now (out .exit)) ≡ room (now (out .entry)) ⌝ }
+// A number after a blank.
+fn field(out: &mut Queue<u8>, n: u64)
+    requires { ⌜ Room (now out) (1 + length (decimal n)) ⌝ }
+    ensures owner { λ _. ⌜ name (now (out .exit) .places) ≡ name (now (out .entry) .places) ⌝ }
+    ensures after { λ _. ⌜ Printed (now (out .entry)) (field n) (now (out .exit)) ⌝ }
+{
+    byte(out, b' ');
+    number(out, n);
+}
+
+// A word and two numbers.
+pub(crate) fn pair(out: &mut Queue<u8>, word: &[u8], a: u64, b: u64)
+    requires { ⌜ Room (now out) (length (now word) + length (decimal a) + length (decimal b) + 3) ⌝ }
+    ensures owner { λ _. ⌜ name (now (out .exit) .places) ≡ name (now (out .entry) .places) ⌝ }
+    ensures after { λ _. ⌜ Printed (now (out .entry)) (line (now (word .entry)) (a ∷ b ∷ [])) (now (out .exit)) ⌝ }
 {
     text(out, word);
-    for n in numbers {
-        text(out, b" ");
-        number(out, *n);
-    }
-    text(out, b"\n");
+    field(out, a);
+    field(out, b);
+    byte(out, b'\n');
+}
+
+// A word and three numbers.
+pub(crate) fn triple(out: &mut Queue<u8>, word: &[u8], a: u64, b: u64, c: u64)
+    requires { ⌜ Room (now out) (length (now word) + length (decimal a) + length (decimal b) + length (decimal c) + 4) ⌝ }
+    ensures owner { λ _. ⌜ name (now (out .exit) .places) ≡ name (now (out .entry) .places) ⌝ }
+    ensures after { λ _. ⌜ Printed (now (out .entry)) (line (now (word .entry)) (a ∷ b ∷ c ∷ [])) (now (out .exit)) ⌝ }
+{
+    text(out, word);
+    field(out, a);
+    field(out, b);
+    field(out, c);
+    byte(out, b'\n');
 }

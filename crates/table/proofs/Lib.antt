@@ -2,3 +2,9 @@ pub mod Places
 pub mod Figures
 pub mod Rows
 pub mod Turns
+pub mod Tables
+pub mod Scratch
+pub mod Finds
+pub mod Exact
+pub mod Rises
+pub mod Leasts

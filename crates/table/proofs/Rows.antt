@@ -32,14 +32,15 @@ gaps-at P t p h = getD-map-counting (gap P t) 0 32 p p 0 h (omega arith)
 pub up-few : (a b : ℕ) → 1 ≤ b → up a b ≤ a
 up-few a b h = up-least a b a h (le-mul-of-pos-right a h)
 
--- what is left of D where m is taken from the plan's ports alone
-pub gap-from : (P : Parts) (t : Table) (ds : List ℕ) (n p : ℕ) → p < 32 → n ≡ P .size .ports → ds ≡ delays P t
-    → cond (ltb p n) (getD ds p 0 - port-at P p .stay) (getD ds p 0) ≡ gap P t p
-gap-from P t ds n p h e q =
-    let a : getD ds p 0 ≡ delay P t p = ap (λ (l : List ℕ). getD l p 0) q ∙ delays-at P t p h in
-    rw (e, a) (both (ltb p (P .size .ports)) (delay-by (port-at P p) (load P t p)) (port-at P p .stay))
+-- D - m by B, and 0 past the plan's ports
+pub gap-from : (P : Parts) (t : Table) (n p b : ℕ) → n ≡ P .size .ports → b ≡ load P t p
+    → cond (ltb p n) (delay-by (port-at P p) b - port-at P p .stay) 0 ≡ gap P t p
+gap-from P t n p b e q =
+    ap (λ (m : ℕ). cond (ltb p m) (delay-by (port-at P p) b - port-at P p .stay) 0) e
+    ∙ ap (λ (b : ℕ). cond (ltb p (P .size .ports)) (delay-by (port-at P p) b - port-at P p .stay) 0) q
+    ∙ both (ltb p (P .size .ports)) (delay-by (port-at P p) (load P t p)) (port-at P p .stay)
   where
-    both : (b : Bool) (d s : ℕ) → cond b (cond b d 0 - s) (cond b d 0) ≡ cond b d 0 - s
+    both : (b : Bool) (d s : ℕ) → cond b (d - s) 0 ≡ cond b d 0 - s
     both true d s = refl
     both false d s = omega arith
 

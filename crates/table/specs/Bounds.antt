@@ -1,10 +1,25 @@
 -- What keeps the sums and products over a plan's flows and delays in their widths.
-use Prim.Native.Nat.{ℕ, _≤_, _<_}
+use Prim.Native.Nat.{ℕ, _+_, _*_, _≤_, _<_}
 use mathlib.Core.List.{List}
 use lib.ListN.{getD}
 use Rattle.draft.specs.Plans.{hop-port, hops}
 use Rattle.draft.specs.declared.flow.Flow.{Flow}
 use Rattle.draft.specs.declared.port.Port.{Port}
+
+-- eight cells of 32 bits, and 64 rows of them
+abbrev pub most-row : ℕ
+most-row = 8 * 4294967295
+
+abbrev pub most-load : ℕ
+most-load = 64 * most-row
+
+-- T + up(B / R) at the most T and the least R
+abbrev pub most-delay : ℕ
+most-delay = 100000 + most-load
+
+-- D + 1 over eight hops
+abbrev pub most-stretch : ℕ
+most-stretch = 8 * (most-delay + 1)
 
 -- a port's figures, as far as its delay goes
 pub record Serves (q : Port) : Type 0 where
@@ -24,4 +39,4 @@ pub record Routed (w : Flow) : Type 0 where
 
 -- delays of ports, none longer than the fullest table makes it
 abbrev pub Few : List ℕ → Type 0
-Few ds = (p : ℕ) → p < 32 → getD ds p 0 ≤ 2199023365040
+Few ds = (p : ℕ) → p < 32 → getD ds p 0 ≤ most-delay

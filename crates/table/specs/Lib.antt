@@ -5,3 +5,6 @@ pub mod Paths
 pub mod Checks
 pub mod Rounds
 pub mod Quotes
+pub mod Accepts
+pub mod Leasts
+pub mod Kits

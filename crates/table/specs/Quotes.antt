@@ -13,7 +13,7 @@ use Rattle.draft.specs.declared.parts.Parts.{Parts}
 use Rattle.draft.specs.declared.table.Proposal.{Proposal}
 use Rattle.draft.specs.declared.table.Table.{Table}
 use Rattle.table.specs.Checks.{crowds-answer, table-answer}
-use Rattle.table.specs.Rounds.{gives, search}
+use Rattle.table.specs.Rounds.{find, gives}
 use Rattle.table.specs.declared.fault.TableFault.{TableFault}
 use Rattle.table.specs.declared.fault.TableFault.the-variants.{Rounds, Rows, Scratch}
 use Rattle.table.specs.declared.search.Found.{Found}
@@ -43,7 +43,7 @@ found-answer P u =
 
 abbrev pub least-answer : Parts → ℕ → ℕ → Result Quoted TableFault
 least-answer P n room =
-    cond (ltb n 1 || ltb 100000 n) (Err Rounds) (cond (ltb room 512) (Err Scratch) (found-answer P (search P n)))
+    cond (ltb n 1 || ltb 100000 n) (Err Rounds) (cond (ltb room 512) (Err Scratch) (found-answer P (find P n)))
 
 -- a table's cells, row after row
 unfoldable pub flat : Table → List ℕ
@@ -52,4 +52,4 @@ flat t = map (λ i. cell t (i / 8) (i % 8)) (counting 0 512)
 -- the last table made, and then the rest as it was
 abbrev pub scratch-after : Parts → ℕ → List ℕ → List ℕ
 scratch-after P n xs =
-    cond (ltb n 1 || ltb 100000 n) xs (cond (ltb (length xs) 512) xs (flat (search P n .table) ++ drop 512 xs))
+    cond (ltb n 1 || ltb 100000 n) xs (cond (ltb (length xs) 512) xs (flat (find P n .table) ++ drop 512 xs))

@@ -1,11 +1,10 @@
 -- The rounds towards the least table.
 use Prim.Native.Nat.{ℕ, zero, suc, _+_, _*_}
-use mathlib.Core.Bool.{Bool, true, false, cond, not}
+use mathlib.Core.Bool.{Bool, cond}
 use mathlib.Core.List.{List, [], _∷_, map}
-use lib.Dec.{leb, ltb}
+use lib.Dec.{eqb, leb, ltb}
+use lib.ListN.{getD}
 use Rattle.std.specs.Iters.{counting}
-use Rattle.std.specs.Keys.{unsigned-equal}
-use Rattle.std.specs.Lexical.{each}
 use Rattle.std.specs.declared.result.Result.{Result}
 use Rattle.std.specs.declared.result.Result.the-variants.{Ok, Err}
 use Rattle.refusal.specs.Firsts.{all-below, first-refusal}
@@ -64,15 +63,16 @@ abbrev pub gives : {X : Type 0} → Result (Unit {0}) TableFault → X → Resul
 gives (Err e) x = Err e
 gives (Ok u) x = Ok x
 
-abbrev pub same-cells : Row → Row → Bool
-same-cells a b = each unsigned-equal (a .cells) (b .cells)
+-- the first n cells of a flow are as a round makes them
+abbrev pub same-row : Flow → List ℕ → Row → ℕ → Bool
+same-row w gs r n = all-below (λ k. eqb (made w gs k) (getD (r .cells) k 0)) n
 
--- whether a round leaves the rows as they are
+-- a round leaves the first n rows as they are
 abbrev pub still-by : Parts → List ℕ → Table → ℕ → Bool
-still-by P gs t n = all-below (λ f. same-cells (made-row (flow-at P f) gs) (row-at t f)) n
+still-by P gs t n = all-below (λ f. same-row (flow-at P f) gs (row-at t f) (hops (flow-at P f))) n
 
 abbrev pub round-by : Parts → List ℕ → Table → Result Made TableFault
-round-by P gs t = gives (climb P gs) (record { table = made-by P gs; changed = not (still-by P gs t (P .size .flows)) })
+round-by P gs t = gives (climb P gs) (record { table = made-by P gs; still = still-by P gs t (P .size .flows) })
 
 -- one round
 abbrev pub round : Parts → Table → Result Made TableFault
@@ -81,13 +81,13 @@ round P t = round-by P (gaps P t) t
 -- what a round leads to: a climb, the end, or the next round
 abbrev pub settle : Result Made TableFault → Table → ℕ → (Table → Found) → Found
 settle (Err e) t d go = record { table = t; rounds = d; answer = Err e }
-settle (Ok m) t d go = cond (m .changed) (go (m .table)) (record { table = m .table; rounds = d + 1; answer = Ok tt })
+settle (Ok m) t d go = cond (m .still) (record { table = m .table; rounds = d + 1; answer = Ok tt }) (go (m .table))
 
 -- n more rounds are allowed, d are made
 abbrev pub least-from : Parts → ℕ → ℕ → Table → Found
 least-from P zero d t = record { table = t; rounds = d; answer = Err Rounds }
 least-from P (suc n) d t = settle (round P t) t d (least-from P n (d + 1))
 
--- the search for the least table within n rounds
-abbrev pub search : Parts → ℕ → Found
-search P n = least-from P n 0 (start P)
+-- what the rounds find, n allowed
+abbrev pub find : Parts → ℕ → Found
+find P n = least-from P n 0 (start P)

@@ -1,5 +1,7 @@
 // Burst tables: the check of a proposed one, the search for the least, and the quote that either gives.
+pub mod bench;
 pub mod check;
+pub mod crowds;
 pub mod fault;
 pub mod loads;
 pub mod paths;

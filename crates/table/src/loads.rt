@@ -5,7 +5,7 @@ ghost use Prim.Native.Nat.{ℕ, _+_, _*_, _<_, _≤_};
 ghost use lib.ListN.{getD};
 ghost use Rattle.draft.specs.Plans.{flow-at, hop-port, hops, port-at};
 ghost use Rattle.plan.specs.Limits.{crosses, rates-through};
-ghost use Rattle.table.specs.Bounds.{Few, Routed, Serves};
+ghost use Rattle.table.specs.Bounds.{Few, Routed, Serves, most-delay, most-load, most-row};
 ghost use Rattle.table.specs.Loads.{backlog, delay, delay-by, delays, gaps, load, load-in};
 use draft::Flow;
 use draft::Port;
@@ -27,21 +27,21 @@ pub(crate) fn port_of(plan: &Plan, p: usize) -> Port
 }
 
 // Flow f of the plan, with the limits it keeps.
-pub(crate) fn flow_of(plan: &Plan, f: usize) -> Flow
+pub(crate) fn flow_of(plan: &Plan, f: usize) -> &Flow
     requires { ⌜ f < now plan .parts .size .flows ⌝ }
-    ensures value { λ r. ⌜ r ≡ flow-at (now (plan .entry) .parts) f ⌝ }
-    ensures kept { λ r. ⌜ Routed r ⌝ }
+    ensures value { λ r. ⌜ now r ≡ flow-at (now (plan .entry) .parts) f ⌝ }
+    ensures kept { λ r. ⌜ Routed (now r) ⌝ }
     ensures within { λ _. ⌜ f < 64 ⌝ }
 {
-    plan.parts.flows[f]
+    &plan.parts.flows[f]
 }
 
 // Each port's sum, with the cells of one flow added.
-fn add_row(sums: &mut [u64; MOST_PORTS], flow: Flow, row: Row)
-    requires kept { ⌜ Routed flow ⌝ }
-    requires few { ⌜ ((p : ℕ) → p < 32 → getD (now sums) p 0 ≤ 4000000000000) ⌝ }
-    ensures value { λ _. ⌜ ((p : ℕ) → p < 32 → getD (now (sums .exit)) p 0 ≡ getD (now (sums .entry)) p 0 + load-in flow row p (hops flow)) ⌝ }
-    ensures few { λ _. ⌜ ((p : ℕ) → p < 32 → getD (now (sums .exit)) p 0 ≤ getD (now (sums .entry)) p 0 + 34359738360) ⌝ }
+fn add_row(sums: &mut [u64; MOST_PORTS], flow: &Flow, row: &Row)
+    requires kept { ⌜ Routed (now flow) ⌝ }
+    requires few { ⌜ ((p : ℕ) → p < 32 → getD (now sums) p 0 ≤ most-load) ⌝ }
+    ensures value { λ _. ⌜ ((p : ℕ) → p < 32 → getD (now (sums .exit)) p 0 ≡ getD (now (sums .entry)) p 0 + load-in (now (flow .entry)) (now (row .entry)) p (hops (now (flow .entry)))) ⌝ }
+    ensures few { λ _. ⌜ ((p : ℕ) → p < 32 → getD (now (sums .exit)) p 0 ≤ getD (now (sums .entry)) p 0 + most-row) ⌝ }
 {
     for k in 0..flow.path.hops as usize {
         let p = flow.path.ports[k] as usize;
@@ -52,11 +52,11 @@ fn add_row(sums: &mut [u64; MOST_PORTS], flow: Flow, row: Row)
 // B of each port.
 pub(crate) fn loads(plan: &Plan, table: &Table) -> [u64; MOST_PORTS]
     ensures value { λ r. ⌜ ((p : ℕ) → p < 32 → getD r p 0 ≡ load (now (plan .entry) .parts) (now (table .entry)) p) ⌝ }
-    ensures few { λ r. ⌜ ((p : ℕ) → p < 32 → getD r p 0 ≤ 2199023255040) ⌝ }
+    ensures few { λ r. ⌜ ((p : ℕ) → p < 32 → getD r p 0 ≤ most-load) ⌝ }
 {
     let mut sums = [0; MOST_PORTS];
     for f in 0..plan.parts.size.flows {
-        add_row(&mut sums, flow_of(plan, f), table.rows[f]);
+        add_row(&mut sums, flow_of(plan, f), &table.rows[f]);
     }
     sums
 }
@@ -64,9 +64,9 @@ pub(crate) fn loads(plan: &Plan, table: &Table) -> [u64; MOST_PORTS]
 // D of a port by its B.
 fn delay_by(port: Port, sum: u64) -> u64
     requires kept { ⌜ Serves port ⌝ }
-    requires few { ⌜ sum ≤ 2199023255040 ⌝ }
+    requires few { ⌜ sum ≤ most-load ⌝ }
     ensures value { λ r. ⌜ r ≡ delay-by port sum ⌝ }
-    ensures few { λ r. ⌜ r ≤ 2199023365040 ⌝ }
+    ensures few { λ r. ⌜ r ≤ most-delay ⌝ }
 {
     port.latency as u64 + up(sum, port.rate as u64)
 }
@@ -99,17 +99,19 @@ pub(crate) fn gaps(plan: &Plan, table: &Table) -> [u64; MOST_PORTS]
     ensures value { λ r. ⌜ r ≡ gaps (now (plan .entry) .parts) (now (table .entry)) ⌝ }
     ensures few { λ r. ⌜ Few r ⌝ }
 {
-    let mut found = delays(plan, table);
+    let sums = loads(plan, table);
+    let mut found = [0; MOST_PORTS];
     for p in 0..plan.parts.size.ports {
-        found[p] = found[p].saturating_sub(port_of(plan, p).stay as u64);
+        let port = port_of(plan, p);
+        found[p] = delay_by(port, sums[p]).saturating_sub(port.stay as u64);
     }
     found
 }
 
 // Whether the flow crosses port p.
-fn crosses(flow: Flow, p: usize) -> bool
-    requires kept { ⌜ Routed flow ⌝ }
-    ensures value { λ r. ⌜ r ≡ crosses flow p ⌝ }
+fn crosses(flow: &Flow, p: usize) -> bool
+    requires kept { ⌜ Routed (now flow) ⌝ }
+    ensures value { λ r. ⌜ r ≡ crosses (now (flow .entry)) p ⌝ }
 {
     for k in 0..MOST_HOPS {
         if k < flow.path.hops as usize && flow.path.ports[k] as usize == p {
@@ -120,9 +122,9 @@ fn crosses(flow: Flow, p: usize) -> bool
 }
 
 // The flow's rate where it crosses port p, else 0.
-fn rate_at(flow: Flow, p: usize) -> u64
-    requires kept { ⌜ Routed flow ⌝ }
-    ensures value { λ r. ⌜ r ≡ cond (crosses flow p) (flow .rate) 0 ⌝ }
+fn rate_at(flow: &Flow, p: usize) -> u64
+    requires kept { ⌜ Routed (now flow) ⌝ }
+    ensures value { λ r. ⌜ r ≡ cond (crosses (now (flow .entry)) p) (now (flow .entry) .rate) 0 ⌝ }
     ensures few { λ r. ⌜ r ≤ 10000 ⌝ }
 {
     if crosses(flow, p) {
@@ -148,7 +150,7 @@ fn rates(plan: &Plan, p: usize) -> u64
 // B + r × D of a port by its B.
 pub(crate) fn backlog_by(plan: &Plan, p: usize, sum: u64) -> u64
     requires port { ⌜ p < now plan .parts .size .ports ⌝ }
-    requires few { ⌜ sum ≤ 2199023255040 ⌝ }
+    requires few { ⌜ sum ≤ most-load ⌝ }
     ensures value { λ r. ⌜ r ≡ sum + rates-through (now (plan .entry) .parts) p * delay-by (port-at (now (plan .entry) .parts) p) sum ⌝ }
 {
     sum + rates(plan, p) * delay_by(port_of(plan, p), sum)

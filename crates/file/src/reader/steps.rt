@@ -18,15 +18,11 @@ use crate::fields;
 use crate::filling::add_flow;
 use crate::filling::add_port;
 use crate::filling::add_row;
+use crate::kinds::END;
+use crate::kinds::FLOW;
+use crate::kinds::PORT;
+use crate::kinds::ROW;
 use draft::Draft;
-
-const PORT: u8 = b'P';
-
-const FLOW: u8 = b'F';
-
-const ROW: u8 = b'B';
-
-const END: u8 = b'E';
 
 // The length of a body, for the kinds that there are.
 fn body_length(kind: u8) -> Option<usize>
@@ -110,6 +106,15 @@ fn take_record(draft: &mut Draft, at: usize, rest: &[u8]) -> Result<Progress, Fi
     }
 }
 
+// The bytes from this place on.
+fn from(bytes: &[u8], at: usize) -> &[u8]
+    requires { ⌜ at ≤ length (now bytes) ⌝ }
+    ensures value { λ r. ⌜ now r ≡ drop at (now (bytes .entry)) ⌝ }
+    ensures left { λ r. ⌜ at + length (now r) ≡ length (now (bytes .entry)) ⌝ }
+{
+    &bytes[at..]
+}
+
 impl<'a> Reader<'a> {
     // At the first record, with nothing said yet.
     pub fn new(bytes: &'a [u8]) -> Reader<'a>
@@ -131,7 +136,7 @@ impl<'a> Reader<'a> {
         ensures at { λ r. ⌜ now (self .exit) .at ≡ cond (isOk r) (now (self .entry) .at + record-size (drop (now (self .entry) .at) (now (now (self .entry) .bytes)))) (now (self .entry) .at) ⌝ }
     {
         let at = self.at;
-        let rest = &self.bytes[at..];
+        let rest = from(self.bytes, at);
         let size = record_size(rest);
         match take_record(&mut self.draft, at, rest) {
             Ok(progress) => {

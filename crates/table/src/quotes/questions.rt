@@ -32,6 +32,6 @@ impl Quote {
             return 0;
         }
         let flow = flow_of(&self.plan, f);
-        delay_along(&flow, &delays(&self.plan, &self.table)) + (flow.path.hops as u64 - 1)
+        delay_along(flow, &delays(&self.plan, &self.table)) + (flow.path.hops as u64 - 1)
     }
 }

@@ -1,6 +1,8 @@
 use mathlib.Core.Path.{_≡_}
-use Rattle.line.specs.Queues.{room}
+use denote.Ref.{name}
+use lib.ListN.{take}
+use Rattle.printing.specs.Prints.{Printed}
 use Rattle.printing.proofs.text.text.Given as given
 
 abbrev pub Inv-loop-b : given.InvT-loop-b
-Inv-loop-b l = room (l .out) ≡ room (l .entry .out)
+Inv-loop-b l = (name (l .out .places) ≡ name (l .entry .out .places)) × Printed (l .entry .out) (take (l .b-index) (l .bytes)) (l .out)

@@ -8,11 +8,11 @@ use Rattle.table.proofs.check.cells_in.Needs as need
 
 pub returns-then-not-cell-fits : need.returns-then-not-cell-fits
 returns-then-not-cell-fits c =
-    tests-at (cell-fits (c .args .flow) (c .args .row)) (λ k. Cell (c .args .f * 8 + k)) 8 (c .loop-k .k) (c .loop-k-test .taken) (c .loop-k .inv) (sym (c .if-not-cell-fits .ensures tt))
+    tests-at (cell-fits (c .args .flow .now) (c .args .row .now)) (λ k. Cell (c .args .f * 8 + k)) 8 (c .loop-k .k) (c .loop-k-test .taken) (c .loop-k .inv) (sym (c .if-not-cell-fits .ensures tt))
 
 pub loop-k-again : need.loop-k-again
 loop-k-again c =
-    tests-more (cell-fits (c .args .flow) (c .args .row)) (λ k. Cell (c .args .f * 8 + k)) (c .loop-k .k) (c .loop-k .inv) (sym (c .if-not-cell-fits .ensures tt))
+    tests-more (cell-fits (c .args .flow .now) (c .args .row .now)) (λ k. Cell (c .args .f * 8 + k)) (c .loop-k .k) (c .loop-k .inv) (sym (c .if-not-cell-fits .ensures tt))
 
 pub returns : need.returns
-returns c = tests-all (cell-fits (c .args .flow) (c .args .row)) (λ k. Cell (c .args .f * 8 + k)) 8 (c .loop-k .k) (omega arith) (c .loop-k .inv)
+returns c = tests-all (cell-fits (c .args .flow .now) (c .args .row .now)) (λ k. Cell (c .args .f * 8 + k)) 8 (c .loop-k .k) (omega arith) (c .loop-k .inv)

@@ -16,7 +16,7 @@ use Rattle.table.proofs.check.lows.Needs as need
 
 pub loop-k-again : need.loop-k-again
 loop-k-again c =
-    let w = c .flow-of-flow .result in
+    let w = c .flow-of-flow .result .now in
     let gs = c .gaps-gaps .result in
     let r = row-at (c .args .table .now) (c .search .f) in
     let k = c .loop-k .k in
@@ -31,7 +31,7 @@ pub search-again : need.search-again
 search-again c =
     let P = c .args .plan .now .parts in
     let t = c .args .table .now in
-    let w = c .flow-of-flow .result in
+    let w = c .flow-of-flow .result .now in
     let gs = c .gaps-gaps .result in
     let f = c .search .f in (
       c .loop-k .inv .0,
@@ -44,7 +44,7 @@ pub returns-then-cell-need : need.returns-then-cell-need
 returns-then-cell-need c =
     let P = c .args .plan .now .parts in
     let t = c .args .table .now in
-    let w = c .flow-of-flow .result in
+    let w = c .flow-of-flow .result .now in
     let gs = c .gaps-gaps .result in
     let f = c .search .f in
     let k = c .loop-k .k in

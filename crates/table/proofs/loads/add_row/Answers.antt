@@ -14,15 +14,15 @@ use Rattle.table.proofs.loads.add_row.Needs as need
 
 pub add-sums : need.add-sums
 add-sums c =
-    let h = hop-port (c .args .flow) (c .loop-k .k) in
+    let h = hop-port (c .args .flow .now) (c .loop-k .k) in
     let i : h < 32 = c .pre .kept .crossed (c .loop-k .k) (c .loop-k-test .taken) in
-    let v : getD (c .args .row .cells) (c .loop-k .k) 0 < 4294967296 = search needs in
+    let v : getD (c .args .row .now .cells) (c .loop-k .k) 0 < 4294967296 = search needs in
     omega (arith, c .loop-k .inv .1 h i, c .pre .few h i, c .pre .kept .hops-most)
 
 pub loop-k-again : need.loop-k-again
 loop-k-again c =
-    let h = hop-port (c .args .flow) (c .loop-k .k) in
-    let x = getD (c .args .row .cells) (c .loop-k .k) 0 in
+    let h = hop-port (c .args .flow .now) (c .loop-k .k) in
+    let x = getD (c .args .row .now .cells) (c .loop-k .k) 0 in
     let xs = c .loop-k .sums in
     let i : h < length xs = omega (arith, c .pre .kept .crossed (c .loop-k .k) (c .loop-k-test .taken), c .loop-k .inv .2) in
     let v : x ≤ 4294967295 = search needs in (

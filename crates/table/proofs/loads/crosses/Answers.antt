@@ -16,7 +16,7 @@ past w p k = not (ltb k (hops w) && eqb (hop-port w k) p)
 
 pub returns-then-flow-k : need.returns-then-flow-k
 returns-then-flow-k c =
-    let w = c .args .flow in
+    let w = c .args .flow .now in
     let p = c .args .p in
     let k = c .loop-k .k in
     let here = not-from-true (ltb k (hops w) && eqb (hop-port w k) p) (and-from (ltb k (hops w)) (eqb (hop-port w k) p) (lt-ltb k (hops w) (c .if-k-flow .taken)) (eq-eqb (hop-port w k) p (c .if-flow-k .taken))) in
@@ -24,7 +24,7 @@ returns-then-flow-k c =
 
 pub loop-k-again : need.loop-k-again
 loop-k-again c =
-    let w = c .args .flow in
+    let w = c .args .flow .now in
     let p = c .args .p in
     let k = c .loop-k .k in
     let passed : (ltb k (hops w) && eqb (hop-port w k) p) ≡ false = elim (c .else-k-flow .came) [
@@ -35,7 +35,7 @@ loop-k-again c =
 
 pub returns : need.returns
 returns c =
-    let w = c .args .flow in
+    let w = c .args .flow .now in
     let p = c .args .p in
     let e : c .loop-k .k ≡ 8 = omega arith in
     record { value = sym (not-from-true (all-below (past w p) 8) (subst (λ (n : ℕ). all-below (past w p) n ≡ true) e (c .loop-k .inv))) }

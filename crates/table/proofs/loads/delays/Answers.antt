@@ -9,6 +9,7 @@ use Rattle.std.proofs.shelf.Lists.{length-set}
 use Rattle.std.proofs.shelf.Tests.{le-ltb}
 use Rattle.draft.specs.Plans.{port-at}
 use Rattle.draft.specs.declared.port.Port.{Port}
+use Rattle.table.specs.Bounds.{most-delay}
 use Rattle.table.specs.Loads.{delay, delay-by, delays}
 use Rattle.table.proofs.Places.{fill-more, set-few, zeros}
 use Rattle.table.proofs.loads.delays.Needs as need
@@ -27,7 +28,7 @@ loop-p-again c =
     let e : x ≡ delay-by (port-at P p) (getD sums p 0) = c .delay-by .ensures .value ∙ ap (λ (q : Port). delay-by q (getD sums p 0)) (c .port-of .ensures .value) in (
       length-set xs p x ∙ c .loop-p .inv .0,
       λ k lt. fill-more (λ j. delay-by (port-at P j) (getD sums j 0)) (λ _. 0) xs p x 0 i e (λ j h. c .loop-p .inv .1 j (omega arith)) k (omega arith),
-      set-few 2199023365040 32 xs p x (c .loop-p .inv .0) (c .delay-by .ensures .few) (c .loop-p .inv .2),
+      set-few most-delay 32 xs p x (c .loop-p .inv .0) (c .delay-by .ensures .few) (c .loop-p .inv .2),
     )
 
 pub returns : need.returns

@@ -18,7 +18,7 @@ loop-f-again c =
     let added : Flow → ℕ → ℕ = λ w p. load-in w (row-at (c .args .table .now) f) p (hops w) in (
       λ p lt.
           rw (add-one f)
-          (c .add-row .ensures .value p lt ∙ ap (λ (n : ℕ). n + added (c .flow-of .result) p) (c .loop-f .inv .0 p lt)
+          (c .add-row .ensures .value p lt ∙ ap (λ (n : ℕ). n + added (c .flow-of .result .now) p) (c .loop-f .inv .0 p lt)
           ∙ ap (λ (w : Flow). load-of P (c .args .table .now) p f + added w p) (c .flow-of .ensures .value)),
       λ p lt. omega (arith, c .add-row .ensures .few p lt, c .loop-f .inv .1 p lt),
     )

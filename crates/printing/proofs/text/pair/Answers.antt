@@ -1,0 +1,22 @@
+use mathlib.Core.List.{[], _∷_}
+use mathlib.Core.Path.{_∙_}
+use Rattle.printing.specs.Lines.{ended, field}
+use Rattle.printing.proofs.Pastes.{printed-then}
+use Rattle.printing.proofs.text.pair.Needs as need
+
+pub returns : need.returns
+returns c =
+    let q = c .args .out .now in
+    let q1 = c .text .last .out in
+    let q2 = c .field .last .out in
+    let q3 = c .field-2 .last .out in
+    let r = c .byte .last .out in
+    let a = c .args .a in
+    let b = c .args .b in
+    record {
+      owner = c .byte .ensures .owner ∙ (c .field-2 .ensures .owner ∙ (c .field .ensures .owner ∙ c .text .ensures .owner));
+      after =
+          printed-then q q1 r (c .args .word .now) (ended (a ∷ b ∷ [])) (q .fits) (c .text .ensures .after)
+          (printed-then q1 q2 r (field a) (ended (b ∷ [])) (q1 .fits) (c .field .ensures .after)
+          (printed-then q2 q3 r (field b) (10 ∷ []) (q2 .fits) (c .field-2 .ensures .after) (c .byte .ensures .after)));
+    }
