@@ -42,14 +42,14 @@ read-from-reads (suc n) d at bytes =
     ap (then-read (record-answer d at rest) e) (read-from-reads n e next bytes ∙ ap (reads n e next) (sym (drop-drop (record-size rest) at bytes)))
 
 -- four bytes give their number again
-number-bytes : (n : ℕ) → ((n / 16777216 * 256 + n / 65536 % 256) * 256 + n / 256 % 256) * 256 + n % 256 ≡ n
+pub number-bytes : (n : ℕ) → ((n / 16777216 * 256 + n / 65536 % 256) * 256 + n / 256 % 256) * 256 + n % 256 ≡ n
 number-bytes n = omega arith
 
 port-of-record : (q : Port) (rest : List ℕ) → port-of (drop 1 (port-record q) ++ rest) ≡ q
 port-of-record q rest = simp number-bytes
 
 -- a list, element by element
-listed : (ℕ → ℕ) → ℕ → List ℕ
+unfoldable pub listed : (ℕ → ℕ) → ℕ → List ℕ
 listed f zero = []
 listed f (suc n) = f 0 ∷ listed (λ k. f (suc k)) n
 
@@ -170,6 +170,8 @@ read-encoded d few hp hf hr =
     let by-ports = reads-records (port-bytes d) 17 (λ i. cut-to i 0 0 d) P 0 (λ i h k at rest. reads-port k (cut-to i 0 0 d) at (port-at (d .parts) i) rest refl refl (omega (arith, few .0)) ∙ ap (λ e. reads k e (at + 17) rest) (with-port-cut d i (omega (arith, hp)) (omega (arith, few .0)))) P (omega arith) in
     let by-flows = reads-records (flow-bytes d) 27 (λ j. cut-to P j 0 d) F (0 + 17 * P) (λ j h k at rest. reads-flow k (cut-to P j 0 d) at (flow-at (d .parts) j) rest refl (omega (arith, few .1)) (hf .1 j h) ∙ ap (λ e. reads k e (at + 27) rest) (with-flow-cut d P j (omega (arith, hf .0)) (omega (arith, few .1)))) F (omega arith) in
     let by-rows = reads-records (row-bytes d) 34 (λ r. cut-to P F r d) R (0 + 17 * P + 27 * F) (λ r h k at rest. reads-row k (cut-to P F r d) at r (row-at (d .proposal .table) r) rest refl (omega (arith, few .2)) (hr .1 r h) ∙ ap (λ e. reads k e (at + 34) rest) (with-row-cut d P F r (omega (arith, hr .0)) (omega (arith, few .2)))) R (omega arith) in
+    let apart : encoded d ≡ records (port-bytes d) P ++ Fs = simp append-assoc in
     read-from-reads (length (encoded d)) empty-draft 0 (encoded d)
     ∙ (ap (λ k. reads k empty-draft 0 (encoded d)) size
-    ∙ (by-ports (F + (R + suc n)) Fs ∙ (by-flows (R + suc n) Rs ∙ (by-rows (suc n) E ∙ reads-end n (tidied d) (0 + 17 * P + 27 * F + 34 * R) (P + F + R) refl))))
+    ∙ (ap (reads (P + (F + (R + suc n))) empty-draft 0) apart
+    ∙ (by-ports (F + (R + suc n)) Fs ∙ (by-flows (R + suc n) Rs ∙ (by-rows (suc n) E ∙ reads-end n (tidied d) (0 + 17 * P + 27 * F + 34 * R) (P + F + R) refl)))))

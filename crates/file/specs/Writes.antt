@@ -2,17 +2,20 @@
 use Prim.Native.Nat.{ℕ, zero, suc, _+_, _*_, _/_, _%_}
 use mathlib.Core.Bool.{Bool, cond, _&&_}
 use mathlib.Core.List.{List, [], _∷_, _++_}
+use mathlib.Core.Path.{_≡_}
 use lib.Dec.{leb}
 use lib.ListN.{drop, getD, length, replicate, take}
 use Rattle.std.specs.Options.{isSome}
 use Rattle.std.specs.declared.option.Option.{Option}
 use Rattle.std.specs.declared.option.Option.the-variants.{None, Some}
+use Rattle.std.specs.declared.result.Result.the-variants.{Ok}
 use Rattle.draft.specs.Plans.{blank-flow, blank-row, flow-at, hop-port, hops, no-port, port-at, row-at}
 use Rattle.draft.specs.declared.draft.Draft.{Draft}
 use Rattle.draft.specs.declared.flow.Flow.{Flow}
 use Rattle.draft.specs.declared.port.Port.{Port}
 use Rattle.draft.specs.declared.table.Row.{Row}
 use Rattle.file.specs.Counts.{flows, ports, rows}
+use Rattle.file.specs.Reads.{read}
 use Rattle.file.specs.Records.{B-kind, E-kind, F-kind, P-kind}
 
 -- a number below 2 ^ 32 in four bytes, the highest first
@@ -57,9 +60,12 @@ abbrev pub records : (ℕ → List ℕ) → ℕ → List ℕ
 records r zero = []
 records r (suc n) = records r n ++ r n
 
+-- all records before the end
+abbrev pub front : Draft → List ℕ
+front d = records (port-bytes d) (ports d) ++ (records (flow-bytes d) (flows d) ++ records (row-bytes d) (rows d))
+
 abbrev pub encoded : Draft → List ℕ
-encoded d =
-    records (port-bytes d) (ports d) ++ (records (flow-bytes d) (flows d) ++ (records (row-bytes d) (rows d) ++ end-record (ports d + flows d + rows d)))
+encoded d = front d ++ end-record (ports d + flows d + rows d)
 
 abbrev pub encoded-size : Draft → ℕ
 encoded-size d = 17 * ports d + 27 * flows d + 34 * rows d + 5
@@ -108,3 +114,7 @@ cut-to i j k d =
 -- a draft without what stands past its counts
 abbrev pub tidied : Draft → Draft
 tidied d = cut-to (ports d) (flows d) (rows d) d
+
+-- a file that says a draft is the file of that draft, and no other
+abbrev pub Sole : List ℕ → Type 0
+Sole bytes = (d : Draft) → read bytes ≡ Ok d → bytes ≡ encoded d

@@ -1,27 +1,25 @@
 -- No fault of a table is found exactly where it is accepted.
 use Prim.Native.Nat.{ℕ, _+_, _*_, _/_, _≤_, _<_}
-use mathlib.Core.Bool.{Bool, true, false, cond}
+use mathlib.Core.Bool.{Bool, true, false}
 use mathlib.Core.Logic.{⊎-elim}
 use mathlib.Core.Path.{_≡_, refl, sym, ap, _∙_}
 use native.Mathlib.Omega.{arith}
-use lib.Dec.{eqb, leb, ltb}
-use lib.ListN.{getD}
+use lib.Dec.{leb, ltb}
 use Rattle.std.proofs.shelf.Tests.{cases-lt, cond-both, cond-false, cond-true, eq-eqb, eqb-true, le-leb, le-ltb, leb-true, lt-ltb}
 use Rattle.std.specs.Results.{isOk}
 use Rattle.std.specs.declared.result.Result.{Result}
 use Rattle.std.specs.declared.result.Result.the-variants.{Ok, Err}
-use Rattle.refusal.specs.Firsts.{and-then, first-refusal}
 use Rattle.refusal.proofs.Orders.{first-refusal-each, first-refusal-from, then-ok}
+use Rattle.refusal.specs.Firsts.{and-then}
 use Rattle.draft.specs.Masks.{regulated}
 use Rattle.draft.specs.Plans.{cell, flow-at, hops, port-at, row-at}
 use Rattle.draft.specs.declared.parts.Parts.{Parts}
 use Rattle.draft.specs.declared.table.Table.{Table}
 use Rattle.plan.specs.Checks.{faultless}
 use Rattle.table.specs.Accepts.{Accepted, Judged}
-use Rattle.table.specs.Bounds.{Routed}
 use Rattle.table.specs.Checks.{accepts, cell-fits, cells-answer, cells-in, crowds-answer, line-fits, lines-answer, lows-answer, lows-in, reaches, regulator-fits, regulators-answer, regulators-in, table-answer, unless}
 use Rattle.table.specs.Loads.{backlog, delays, gaps}
-use Rattle.table.specs.Paths.{need, need-by, stretch, stretch-by}
+use Rattle.table.specs.Paths.{need, stretch, stretch-by}
 use Rattle.table.specs.declared.fault.TableFault.{TableFault}
 use Rattle.table.specs.declared.fault.TableFault.the-variants.{Cell, Crowded, Low}
 use Rattle.table.proofs.Figures.{routed-of}

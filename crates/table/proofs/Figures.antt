@@ -5,9 +5,9 @@ use mathlib.Core.Path.{_≡_}
 use native.Mathlib.Omega.{arith}
 use Rattle.draft.specs.Plans.{flow-at, port-at}
 use Rattle.draft.specs.declared.parts.Parts.{Parts}
+use Rattle.plan.proofs.Keeps.{kept-of}
 use Rattle.plan.specs.Checks.{faultless}
 use Rattle.plan.specs.Limits.{rates-through}
-use Rattle.plan.proofs.Keeps.{kept-of}
 use Rattle.table.specs.Bounds.{Routed, Serves}
 
 pub serves-of : (P : Parts) → faultless P ≡ true → (p : ℕ) → p < P .size .ports → Serves (port-at P p)

@@ -1,5 +1,5 @@
 -- One turn of the search for the least table.
-use Prim.Native.Nat.{ℕ, _+_, _-_, _≤_, _<_, suc}
+use Prim.Native.Nat.{ℕ, _+_, _-_, _<_, suc}
 use mathlib.Core.Bool.{Bool, true, false, cond}
 use mathlib.Core.Path.{_≡_, sym, ap, _∙_}
 use native.Mathlib.Omega.{arith}
@@ -11,7 +11,6 @@ use Rattle.table.specs.Rounds.{least-from, round, settle}
 use Rattle.table.specs.declared.fault.TableFault.{TableFault}
 use Rattle.table.specs.declared.fault.TableFault.the-variants.{Rounds}
 use Rattle.table.specs.declared.rounds.Made.{Made}
-use Rattle.table.specs.declared.search.Found.{Found}
 
 module _ (P : Parts) (n d : ℕ) (t : Table) (h : d < n) where
   turn : least-from P (n - d) d t ≡ settle (round P t) t d (least-from P (n - (d + 1)) (d + 1))

@@ -1,34 +1,31 @@
 -- Why the table that a round leaves unchanged is the least, and why there is none where a need climbs past the limit.
-use Prim.Native.Nat.{ℕ, zero, suc, _+_, _-_, _*_, _/_, _≤_, _<_}
-use mathlib.Core.Bool.{Bool, true, false, cond, _&&_}
-use mathlib.Core.List.{List, [], _∷_}
+use Prim.Native.Nat.{ℕ, zero, suc, _+_, _-_, _*_, _≤_, _<_}
+use mathlib.Core.Bool.{true, false, cond}
+use mathlib.Core.List.{List}
 use mathlib.Core.Path.{_≡_, refl, sym, ap, subst, _∙_}
-use native.Mathlib.Nat.{le-trans, mul-le-mul-left}
 use native.Mathlib.Decide.{ℕ-discrete}
+use native.Mathlib.Nat.{le-trans, mul-le-mul-left}
 use native.Mathlib.Numerals.{add-one}
 use native.Mathlib.Omega.{arith}
-use lib.Dec.{eqb, leb, ltb}
+use lib.Dec.{eqb, leb}
 use lib.ListN.{getD}
-use Rattle.std.proofs.shelf.Tests.{and-parts, both-ways, cond-true, eq-eqb, eqb-true, le-leb, le-ltb, leb-true, lt-ltb}
+use Rattle.std.proofs.shelf.Tests.{both-ways, eq-eqb, eqb-true, le-leb, le-ltb, leb-true, lt-ltb}
 use Rattle.std.specs.Results.{isOk}
 use Rattle.std.specs.declared.result.Result.{Result}
 use Rattle.std.specs.declared.result.Result.the-variants.{Ok, Err}
-use Rattle.refusal.specs.Firsts.{all-below, and-then, first-refusal}
 use Rattle.refusal.proofs.Orders.{all-below-each, all-below-from, first-refusal-each, first-refusal-from}
+use Rattle.refusal.specs.Firsts.{and-then}
 use Rattle.draft.specs.Masks.{regulated}
 use Rattle.draft.specs.Plans.{cell, flow-at, hop-port, hops, port-at, row-at}
-use Rattle.draft.specs.declared.flow.Flow.{Flow}
 use Rattle.draft.specs.declared.parts.Parts.{Parts}
-use Rattle.draft.specs.declared.table.Row.{Row}
 use Rattle.draft.specs.declared.table.Table.{Table}
 use Rattle.plan.specs.Checks.{faultless}
 use Rattle.table.specs.Accepts.{Accepted, Below, Cells, Hopeless}
-use Rattle.table.specs.Bounds.{Routed}
 use Rattle.table.specs.Checks.{accepts, cells-answer, crowds-answer, lows-answer, table-answer, unless}
-use Rattle.table.specs.Leasts.{Excluded, FirstStill, LeastFound, Settled, Shown, Sought, after}
+use Rattle.table.specs.Leasts.{Excluded, Settled, Shown, Sought, after}
 use Rattle.table.specs.Loads.{gaps}
-use Rattle.table.specs.Paths.{need, need-after, need-by}
-use Rattle.table.specs.Rounds.{climb, climb-in, find, gives, least-from, made, made-by, made-row, row-by, same-row, settle, start, start-row, still-by, table-by, zero-row}
+use Rattle.table.specs.Paths.{need}
+use Rattle.table.specs.Rounds.{climb, climb-in, find, gives, least-from, made, made-by, made-row, row-by, same-row, settle, start, still-by, table-by}
 use Rattle.table.specs.declared.fault.TableFault.{TableFault}
 use Rattle.table.specs.declared.fault.TableFault.the-variants.{Cell, Climbs, Crowded, Low, Rounds, Rows, Scratch}
 use Rattle.table.specs.declared.search.Found.{Found}

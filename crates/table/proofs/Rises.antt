@@ -1,14 +1,10 @@
 -- Loads, delays, backlogs and stretches rise with the table.
-use Prim.Native.Nat.{ℕ, zero, suc, _+_, _-_, _*_, _/_, _≤_, _<_}
-use mathlib.Core.Bool.{Bool, true, false, cond}
-use mathlib.Core.List.{List}
-use mathlib.Core.Path.{_≡_}
+use Prim.Native.Nat.{ℕ, zero, suc, _+_, _*_, _/_, _≤_, _<_}
+use mathlib.Core.Bool.{true, false, cond}
 use native.Mathlib.Nat.{div-mul-le-self, le-div-iff-mul-le, le-trans, mul-le-mul-left}
 use native.Mathlib.Omega.{arith}
 use lib.Dec.{eqb, ltb}
 use lib.ListN.{getD}
-use Rattle.std.proofs.shelf.Tests.{lt-ltb}
-use Rattle.rounding.specs.Quotients.{up}
 use Rattle.rounding.proofs.Ceilings.{up-rises}
 use Rattle.draft.specs.Masks.{regulated}
 use Rattle.draft.specs.Plans.{cell, flow-at, hop-port, hops, port-at, row-at}
@@ -19,7 +15,7 @@ use Rattle.draft.specs.declared.table.Table.{Table}
 use Rattle.plan.specs.Limits.{rates-through}
 use Rattle.table.specs.Accepts.{Below}
 use Rattle.table.specs.Bounds.{Routed}
-use Rattle.table.specs.Loads.{backlog, delay, delay-by, delays, gap, gaps, load, load-in, load-of}
+use Rattle.table.specs.Loads.{backlog, delay, delay-by, delays, gaps, load, load-in, load-of}
 use Rattle.table.specs.Paths.{stretch-by}
 use Rattle.table.proofs.Rows.{delays-at, gaps-at}
 

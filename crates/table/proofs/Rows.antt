@@ -1,7 +1,6 @@
 -- Delays and gaps of ports, place by place.
 use Prim.Native.Nat.{ℕ, _+_, _-_, _*_, _≤_, _<_}
 use mathlib.Core.Bool.{Bool, true, false, cond}
-use mathlib.Core.List.{List}
 use mathlib.Core.Path.{_≡_, refl, ap, _∙_}
 use native.Mathlib.Nat.{le-mul-of-pos-right}
 use native.Mathlib.Omega.{arith}
@@ -9,8 +8,8 @@ use lib.Dec.{ltb}
 use lib.ListN.{getD, length}
 use Rattle.std.proofs.shelf.Counted.{getD-map-counting, length-map-counting}
 use Rattle.std.proofs.shelf.Tests.{lt-ltb}
-use Rattle.rounding.specs.Quotients.{up}
 use Rattle.rounding.proofs.Ceilings.{up-least}
+use Rattle.rounding.specs.Quotients.{up}
 use Rattle.draft.specs.Plans.{port-at}
 use Rattle.draft.specs.declared.parts.Parts.{Parts}
 use Rattle.draft.specs.declared.table.Table.{Table}

@@ -1,12 +1,12 @@
 -- What a loop over tests knows at each turn, where a test that fails is a fault of the table.
-use Prim.Native.Nat.{ℕ, zero, suc, _+_, _<_}
-use mathlib.Core.Bool.{Bool, true, false, cond}
+use Prim.Native.Nat.{ℕ, _+_, _<_}
+use mathlib.Core.Bool.{Bool, true, false}
 use mathlib.Core.Path.{_≡_, sym, ap, _∙_}
 use Rattle.std.proofs.shelf.Tests.{cond-false, cond-true}
 use Rattle.std.specs.declared.result.Result.{Result}
 use Rattle.std.specs.declared.result.Result.the-variants.{Ok, Err}
-use Rattle.refusal.specs.Firsts.{first-refusal}
 use Rattle.refusal.proofs.Orders.{first-refusal-at, first-refusal-more}
+use Rattle.refusal.specs.Firsts.{first-refusal}
 use Rattle.table.specs.Checks.{unless}
 use Rattle.table.specs.declared.fault.TableFault.{TableFault}
 

@@ -2,9 +2,9 @@ pub mod Faults
 pub mod Bounds
 pub mod Loads
 pub mod Paths
+pub mod Accepts
 pub mod Checks
 pub mod Rounds
-pub mod Quotes
-pub mod Accepts
 pub mod Leasts
+pub mod Quotes
 pub mod Kits

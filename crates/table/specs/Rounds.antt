@@ -18,8 +18,8 @@ use Rattle.table.specs.Loads.{gaps}
 use Rattle.table.specs.Paths.{need-after}
 use Rattle.table.specs.declared.fault.TableFault.{TableFault}
 use Rattle.table.specs.declared.fault.TableFault.the-variants.{Climbs, Rounds}
-use Rattle.table.specs.declared.search.Found.{Found}
 use Rattle.table.specs.declared.rounds.Made.{Made}
+use Rattle.table.specs.declared.search.Found.{Found}
 
 abbrev pub zero-row : Row
 zero-row = record { cells = 0 ∷ 0 ∷ 0 ∷ 0 ∷ 0 ∷ 0 ∷ 0 ∷ 0 ∷ [] }

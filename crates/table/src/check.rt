@@ -1,10 +1,9 @@
 // The check of a table: no fault exactly where it is accepted, else the first.
 ghost use mathlib.Core.Path.{_≡_};
 ghost use Prim.Native.Nat.{_<_};
-ghost use Rattle.std.specs.declared.result.Result.the-variants.{Ok, Err};
-ghost use Rattle.table.specs.Accepts.{Accepted, Judged};
+ghost use Rattle.table.specs.Accepts.{Judged};
 ghost use Rattle.table.specs.Checks.{cell-fits, cells-answer, cells-in, lows-answer, table-answer};
-ghost use Rattle.table.specs.Quotes.{quote-answer, told};
+ghost use Rattle.table.specs.Quotes.{Exactly, quote-answer, told};
 use crate::crowds::crowds;
 use crate::fault::TableFault;
 use crate::loads::flow_of;
@@ -99,7 +98,7 @@ fn check(plan: &Plan, table: Table) -> Result<(), TableFault>
 // The plan's quote by the proposed table, or the first fault of the proposal.
 pub fn quote(plan: Plan, proposal: Proposal) -> Result<Quote, TableFault>
     ensures answer { λ r. ⌜ told r ≡ quote-answer (plan .parts) proposal ⌝ }
-    ensures exact { λ r. ⌜ elim r [ Ok q ↦ (proposal .rows ≡ plan .parts .size .flows) × Accepted (plan .parts) (proposal .table) | Err e ↦ (proposal .rows ≡ plan .parts .size .flows → Accepted (plan .parts) (proposal .table) → ⊥) ] ⌝ }
+    ensures exact { λ r. ⌜ Exactly (plan .parts) proposal r ⌝ }
 {
     if proposal.rows != plan.parts.size.flows {
         return Err(TableFault::Rows(proposal.rows));

@@ -3,7 +3,7 @@ ghost use mathlib.Core.Bool.{cond};
 ghost use mathlib.Core.Path.{_≡_};
 ghost use Prim.Native.Nat.{ℕ, _+_, _*_, _<_, _≤_};
 ghost use lib.ListN.{getD};
-ghost use Rattle.draft.specs.Plans.{flow-at, hop-port, hops, port-at};
+ghost use Rattle.draft.specs.Plans.{flow-at, hops, port-at};
 ghost use Rattle.plan.specs.Limits.{crosses, rates-through};
 ghost use Rattle.table.specs.Bounds.{Few, Routed, Serves, most-delay, most-load, most-row};
 ghost use Rattle.table.specs.Loads.{backlog, delay, delay-by, delays, gaps, load, load-in};

@@ -1,16 +1,15 @@
 // The search for the least table.
 ghost use mathlib.Core.Bool.{true};
+ghost use mathlib.Core.List.{_++_};
 ghost use mathlib.Core.Path.{_≡_};
 ghost use Prim.Native.Nat.{_≤_};
-ghost use mathlib.Core.List.{_++_};
 ghost use lib.ListN.{drop, length};
 ghost use Rattle.std.specs.Results.{isOk};
-ghost use Rattle.std.specs.declared.result.Result.the-variants.{Ok, Err};
 ghost use Rattle.refusal.specs.Firsts.{and-then};
 ghost use Rattle.table.specs.Bounds.{Routed};
 ghost use Rattle.table.specs.Checks.{accepts, crowds-answer};
-ghost use Rattle.table.specs.Leasts.{Excluded, LeastFound, Shown, Sought};
-ghost use Rattle.table.specs.Quotes.{flat, least-answer, scratch-after, told};
+ghost use Rattle.table.specs.Leasts.{Shown, Sought};
+ghost use Rattle.table.specs.Quotes.{LeastOrNone, flat, least-answer, scratch-after, told};
 ghost use Rattle.table.specs.Rounds.{find, start, start-row};
 use crate::crowds::crowds;
 use crate::fault::TableFault;
@@ -119,7 +118,7 @@ fn lay(table: &Table, scratch: &mut [u64])
 pub fn least(plan: Plan, rounds: u32, scratch: &mut [u64]) -> Result<Quote, TableFault>
     ensures answer { λ r. ⌜ told r ≡ least-answer (plan .parts) rounds (length (now (scratch .entry))) ⌝ }
     ensures after { λ _. ⌜ now (scratch .exit) ≡ scratch-after (plan .parts) rounds (now (scratch .entry)) ⌝ }
-    ensures least { λ r. ⌜ elim r [ Ok q ↦ LeastFound (plan .parts) (q .table) (q .rounds) | Err e ↦ Excluded (plan .parts) e ] ⌝ }
+    ensures least { λ r. ⌜ LeastOrNone (plan .parts) r ⌝ }
 {
     if rounds < 1 || rounds > MOST_ROUNDS {
         return Err(TableFault::Rounds);

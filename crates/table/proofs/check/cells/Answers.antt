@@ -1,5 +1,4 @@
-use Prim.Native.Nat.{ℕ}
-use mathlib.Core.Path.{_≡_, ap, _∙_}
+use mathlib.Core.Path.{ap, _∙_}
 use Rattle.draft.specs.Plans.{flow-at, row-at}
 use Rattle.draft.specs.declared.flow.Flow.{Flow}
 use Rattle.table.specs.Checks.{cells-in}

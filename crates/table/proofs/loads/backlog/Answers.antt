@@ -1,11 +1,4 @@
-use Prim.Native.Nat.{ℕ, _+_, _*_}
-use mathlib.Core.Path.{_≡_, refl, sym, ap, _∙_}
-use native.Mathlib.Omega.{arith}
 use lib.ListN.{getD}
-use Rattle.std.proofs.shelf.Tests.{le-ltb}
-use Rattle.draft.specs.Plans.{port-at}
-use Rattle.plan.specs.Limits.{rates-through}
-use Rattle.table.specs.Loads.{delay-by, load}
 use Rattle.table.proofs.Figures.{ports-few}
 use Rattle.table.proofs.Rows.{backlog-at}
 use Rattle.table.proofs.loads.backlog.Needs as need

@@ -1,11 +1,11 @@
-use Prim.Native.Nat.{ℕ, suc}
+use Prim.Native.Nat.{ℕ}
 use mathlib.Core.Bool.{Bool, not, true, false, _&&_}
-use mathlib.Core.Path.{_≡_, sym, ap, subst, _∙_}
+use mathlib.Core.Path.{_≡_, sym, subst}
 use native.Mathlib.Omega.{arith}
 use lib.Dec.{eqb, ltb}
 use Rattle.std.proofs.shelf.Tests.{and-from, and-left, and-right, eq-eqb, le-ltb, lt-ltb, ne-eqb, not-from-false, not-from-true}
-use Rattle.refusal.specs.Firsts.{all-below}
 use Rattle.refusal.proofs.Orders.{all-below-fails, all-below-more}
+use Rattle.refusal.specs.Firsts.{all-below}
 use Rattle.draft.specs.Plans.{hop-port, hops}
 use Rattle.draft.specs.declared.flow.Flow.{Flow}
 use Rattle.table.proofs.loads.crosses.Needs as need

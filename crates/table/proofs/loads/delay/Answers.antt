@@ -1,6 +1,6 @@
+use Prim.Native.Nat.{ℕ}
 use mathlib.Core.List.{List}
 use mathlib.Core.Path.{ap, _∙_}
-use Prim.Native.Nat.{ℕ}
 use lib.ListN.{getD}
 use Rattle.table.proofs.Figures.{ports-few}
 use Rattle.table.proofs.Rows.{delays-at}

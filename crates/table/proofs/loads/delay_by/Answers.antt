@@ -1,5 +1,5 @@
-use mathlib.Core.Path.{ap}
 use Prim.Native.Nat.{_+_}
+use mathlib.Core.Path.{ap}
 use native.Mathlib.Omega.{arith}
 use Rattle.table.proofs.Rows.{up-few}
 use Rattle.table.proofs.loads.delay_by.Needs as need

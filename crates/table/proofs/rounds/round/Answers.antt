@@ -1,5 +1,5 @@
 use Prim.Native.Nat.{ℕ, _<_}
-use mathlib.Core.Bool.{Bool, true, false, _&&_}
+use mathlib.Core.Bool.{Bool, _&&_}
 use mathlib.Core.List.{List}
 use mathlib.Core.Path.{_≡_, refl, sym, ap, _∙_}
 use native.Mathlib.Numerals.{add-one}
@@ -15,7 +15,6 @@ use Rattle.draft.specs.declared.flow.Flow.{Flow}
 use Rattle.draft.specs.declared.table.Table.{Table}
 use Rattle.table.specs.Rounds.{climb, climb-in, gives, made-by, made-row, round-by, same-row, still-by, zero-row}
 use Rattle.table.specs.declared.fault.TableFault.{TableFault}
-use Rattle.table.specs.declared.rounds.Made.{Made}
 use Rattle.table.proofs.Places.{fill-more}
 use Rattle.table.proofs.Tables.{gives-err, gives-ok, table-all}
 use Rattle.table.proofs.Turns.{rows-at, rows-more}

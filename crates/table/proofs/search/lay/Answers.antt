@@ -1,4 +1,5 @@
-use Prim.Native.Nat.{ℕ, _/_, _%_, _<_}
+use Prim.Native.Nat.{_/_, _%_, _<_}
+use mathlib.Core.Path.{refl}
 use native.Mathlib.Omega.{arith}
 use lib.ListN.{getD, length}
 use Rattle.std.proofs.shelf.Lists.{length-set}
@@ -6,7 +7,6 @@ use Rattle.draft.specs.Plans.{cell}
 use Rattle.table.proofs.Places.{fill-more}
 use Rattle.table.proofs.Scratch.{laid-all}
 use Rattle.table.proofs.search.lay.Needs as need
-use mathlib.Core.Path.{refl}
 
 pub loop-i-again : need.loop-i-again
 loop-i-again c =

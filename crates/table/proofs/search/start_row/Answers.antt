@@ -4,12 +4,11 @@ use mathlib.Core.List.{List}
 use mathlib.Core.Path.{_≡_, refl, ap, _∙_}
 use native.Mathlib.Omega.{arith}
 use lib.Dec.{ltb}
-use lib.ListN.{getD, length}
+use lib.ListN.{length}
 use Rattle.std.proofs.shelf.Counted.{fill-by-all}
 use Rattle.std.proofs.shelf.Lists.{length-set}
 use Rattle.std.proofs.shelf.Tests.{le-ltb}
 use Rattle.draft.specs.Plans.{hops}
-use Rattle.draft.specs.declared.table.Row.{Row}
 use Rattle.table.specs.Rounds.{row-by}
 use Rattle.table.proofs.Places.{fill-more, zeros}
 use Rattle.table.proofs.search.start_row.Needs as need
