@@ -30,12 +30,14 @@ use Rattle.file.specs.declared.reader.Progress.{Progress}
 use Rattle.file.specs.declared.reader.Progress.the-variants.{Done, More}
 use Rattle.file.proofs.Returning.{listed, read-from-reads, reads}
 
+-- every number is a byte
 abbrev pub Bytes : List ℕ → Type 0
 Bytes xs = (i : ℕ) → getD xs i 0 < 256
 
 bytes-drop : (xs : List ℕ) (n : ℕ) → Bytes xs → Bytes (drop n xs)
 bytes-drop xs n h i = omega (arith, getD-drop n xs i 0, h (n + i))
 
+-- the first n elements, then the others
 listed-front : (xs : List ℕ) (n : ℕ) → n ≤ length xs → listed (λ k. getD xs k 0) n ++ drop n xs ≡ xs
 unfolding listed
 listed-front [] zero h = refl
@@ -56,6 +58,7 @@ bytes-number a b c d ha hb hc hd =
 bytes-at : (xs : List ℕ) → Bytes xs → (i : ℕ) → bytes-of (number-at xs i) ≡ getD xs i 0 ∷ getD xs (i + 1) 0 ∷ getD xs (i + 2) 0 ∷ getD xs (i + 3) 0 ∷ []
 bytes-at xs h i = bytes-number (getD xs i 0) (getD xs (i + 1) 0) (getD xs (i + 2) 0) (getD xs (i + 3) 0) (h i) (h (i + 1)) (h (i + 2)) (h (i + 3))
 
+-- the same in front of more
 bytes-then : (xs : List ℕ) → Bytes xs → (i : ℕ) {s t : List ℕ} → s ≡ t → bytes-of (number-at xs i) ++ s ≡ getD xs i 0 ∷ getD xs (i + 1) 0 ∷ getD xs (i + 2) 0 ∷ getD xs (i + 3) 0 ∷ t
 bytes-then xs h i {s = s} e =
     ap (λ l. l ++ s) (bytes-at xs h i) ∙ ap (λ l. getD xs i 0 ∷ getD xs (i + 1) 0 ∷ getD xs (i + 2) 0 ∷ getD xs (i + 3) 0 ∷ l) e
@@ -110,6 +113,7 @@ pub record Roomy (d : Draft) : Type 0 where
   pub for-flows : length (d .parts .flows) ≡ 64
   pub for-rows : length (d .proposal .table .rows) ≡ 64
 
+-- one more record stands at the end of the front
 front-with-port : (d : Draft) (q : Port) → ports d < length (d .parts .ports) → flows d ≡ 0 → rows d ≡ 0 → front (with-port d q) ≡ front d ++ port-record q
 front-with-port d q h f r =
     let P = records (port-bytes d) (ports d) in
@@ -280,6 +284,7 @@ ends-all zero e d at rest room b h = let z : _≡_ {A = ℕ} 0 1 = cc in absurd 
 ends-all (suc k) e d at [] room b h = let z : _≡_ {A = ℕ} 0 1 = cc in absurd (omega arith)
 ends-all (suc k) e d at (kind ∷ body) room b h = ends-record k e (ends-all k e) d at kind body room (λ i. b (suc i)) h
 
+-- the whole file, from its first record
 pub encoded-read : (bytes : List ℕ) (d : Draft) → Bytes bytes → read bytes ≡ Ok d → bytes ≡ encoded d
 encoded-read bytes d b h =
     ends-all (length bytes) d empty-draft 0 bytes (record { for-ports = refl; for-flows = refl; for-rows = refl }) b (sym (read-from-reads (length bytes) empty-draft 0 bytes) ∙ h)

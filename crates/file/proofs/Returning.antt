@@ -1,11 +1,10 @@
 -- The file of a draft reads back: a reader that leaves behind what it has read, and one step of it for each kind of record.
 use Prim.Native.Nat.{ℕ, zero, suc, _+_, _*_, _/_, _%_, _<_, _≤_}
-use mathlib.Core.Bool.{true, cond, _&&_}
 use mathlib.Core.List.{List, [], _∷_, _++_}
 use mathlib.Core.Path.{_≡_, refl, sym, ap, _∙_}
 use native.Mathlib.Numerals.{add-one}
 use native.Mathlib.Omega.{arith}
-use lib.Dec.{eqb, ltb}
+use lib.Dec.{ltb}
 use lib.ListN.{drop, getD, length, replicate, set, take}
 use Rattle.std.proofs.shelf.Lists.{append-assoc, drop-drop, drop-more, length-take-le, set-at, take-more}
 use Rattle.std.proofs.shelf.Tests.{cond-false, le-ltb}
@@ -20,11 +19,11 @@ use Rattle.draft.specs.declared.table.Row.{Row}
 use Rattle.file.specs.Counts.{Few, Has-flows, Has-ports, Has-rows, flows, ports, rows}
 use Rattle.file.specs.Reads.{end-answer, flow-answer, port-answer, read, read-from, record-answer, record-draft, record-size, row-answer, then-read, with-flow, with-port, with-row}
 use Rattle.file.specs.Records.{flow-of, port-of, row-of}
-use Rattle.file.specs.Writes.{bytes-of, cut-to, encoded, encoded-size, end-record, flow-bytes, flow-record, fronted, port-bytes, port-record, records, row-bytes, row-record, tidied}
+use Rattle.file.specs.Returns.{cut-to, fronted, tidied}
+use Rattle.file.specs.Writes.{bytes-of, encoded, end-record, flow-bytes, flow-record, port-bytes, port-record, records, row-bytes, row-record}
 use Rattle.file.proofs.Writing.{length-encoded}
 use Rattle.file.specs.declared.fault.FileFault.{FileFault}
 use Rattle.file.specs.declared.fault.FileFault.the-variants.{Cut}
-use Rattle.file.specs.declared.reader.Progress.{Progress}
 use Rattle.file.specs.declared.reader.Progress.the-variants.{Done, More}
 
 -- the records of what is left of a file
@@ -42,7 +41,7 @@ read-from-reads (suc n) d at bytes =
     ap (then-read (record-answer d at rest) e) (read-from-reads n e next bytes ∙ ap (reads n e next) (sym (drop-drop (record-size rest) at bytes)))
 
 -- four bytes give their number again
-pub number-bytes : (n : ℕ) → ((n / 16777216 * 256 + n / 65536 % 256) * 256 + n / 256 % 256) * 256 + n % 256 ≡ n
+number-bytes : (n : ℕ) → ((n / 16777216 * 256 + n / 65536 % 256) * 256 + n / 256 % 256) * 256 + n % 256 ≡ n
 number-bytes n = omega arith
 
 port-of-record : (q : Port) (rest : List ℕ) → port-of (drop 1 (port-record q) ++ rest) ≡ q
@@ -58,7 +57,7 @@ unfolding listed
 listed-all [] = refl
 listed-all (x ∷ xs) = ap (λ ys. x ∷ ys) (listed-all xs)
 
-listed-8 : (xs : List ℕ) → length xs ≡ 8 → getD xs 0 0 ∷ getD xs 1 0 ∷ getD xs 2 0 ∷ getD xs 3 0 ∷ getD xs 4 0 ∷ getD xs 5 0 ∷ getD xs 6 0 ∷ getD xs 7 0 ∷ [] ≡ xs
+pub listed-8 : (xs : List ℕ) → length xs ≡ 8 → getD xs 0 0 ∷ getD xs 1 0 ∷ getD xs 2 0 ∷ getD xs 3 0 ∷ getD xs 4 0 ∷ getD xs 5 0 ∷ getD xs 6 0 ∷ getD xs 7 0 ∷ [] ≡ xs
 unfolding listed
 listed-8 xs h = ap (listed (λ k. getD xs k 0)) (sym h) ∙ listed-all xs
 
@@ -77,7 +76,7 @@ flow-more d at r f = grind (arith, tells)
 row-more : (d : Draft) (at n : ℕ) → n ≡ rows d → rows d < 64 → row-answer d at n ≡ Ok More
 row-more d at n e r = grind (arith, tells)
 
--- a record with nothing left out is answered as it stands
+-- a record in front of the rest: it is taken, and the reader stands behind it
 reads-port : (k : ℕ) (d : Draft) (at : ℕ) (q : Port) (rest : List ℕ) → flows d ≡ 0 → rows d ≡ 0 → ports d < 32 → reads (suc k) d at (port-record q ++ rest) ≡ reads k (with-port d q) (at + 17) rest
 reads-port k d at q rest f r p =
     let body = drop 1 (port-record q) ++ rest in

@@ -1,6 +1,6 @@
 -- Bytes written into a place one after another, and records of one length in a row.
 use Prim.Native.Nat.{ℕ, zero, suc, _+_, _*_, _≤_}
-use mathlib.Core.List.{List, [], _∷_, _++_}
+use mathlib.Core.List.{List, [], _++_}
 use mathlib.Core.Path.{_≡_, refl, sym, ap, _∙_}
 use native.Mathlib.Numerals.{add-one}
 use native.Mathlib.Omega.{arith}
@@ -37,15 +37,21 @@ written-written xs s t at h =
     ∙ (append-assoc (take at xs) s (t ++ drop (at + length (s ++ t)) xs)
     ∙ ap (λ l. take at xs ++ l) (sym (append-assoc s t (drop (at + length (s ++ t)) xs)))))
 
--- the same, as calls have it: what the place holds by now, and where that ends
-written-on : (xs s t p q : List ℕ) (e : ℕ) → p ≡ written xs 0 s → e ≡ length s → q ≡ written p e t → q ≡ written xs 0 (s ++ t)
-written-on xs s t p q e hp he hq =
-    let start : e ≡ 0 + length s = omega (arith, he) in
-    hq ∙ (ap (λ l. written l e t) hp ∙ (ap (λ k. written (written xs 0 s) k t) start ∙ written-written xs s t 0 (omega arith)))
-
 pub length-records : (r : ℕ → List ℕ) (w : ℕ) → ((k : ℕ) → length (r k) ≡ w) → (n : ℕ) → length (records r n) ≡ w * n
 length-records r w h zero = omega arith
 length-records r w h (suc n) = length-append (records r n) (r n) ∙ omega (arith, length-records r w h n, h n)
+
+-- bytes s stand in a place from `at` on, and end at e
+pub record Put (xs : List ℕ) (at : ℕ) (s place : List ℕ) (e : ℕ) : Type 0 where
+  pub after : place ≡ written xs at s
+  pub at-end : e ≡ at + length s
+
+pub put-more : (t : List ℕ) {xs s place next : List ℕ} {at e end : ℕ} → at ≤ length xs → Put xs at s place e → next ≡ written place e t → end ≡ e + length t → Put xs at (s ++ t) next end
+put-more t {xs = xs} {s = s} {at = at} {e = e} h o hn he =
+    record {
+      after = hn ∙ (ap (λ p. written p e t) (o .after) ∙ (ap (λ k. written (written xs at s) k t) (o .at-end) ∙ written-written xs s t at h));
+      at-end = simp length-append (omega (arith, o .at-end, he));
+    }
 
 -- n records of w bytes each stand in a place from `at` on, and end at e
 pub record Wrote (r : ℕ → List ℕ) (w : ℕ) (xs : List ℕ) (at n : ℕ) (place : List ℕ) (e : ℕ) : Type 0 where
@@ -55,20 +61,13 @@ pub record Wrote (r : ℕ → List ℕ) (w : ℕ) (xs : List ℕ) (at n : ℕ) (
 pub wrote-none : (r : ℕ → List ℕ) (w : ℕ) (xs : List ℕ) (at : ℕ) → Wrote r w xs at 0 xs at
 wrote-none r w xs at = record { after = written-none xs at; at-end = omega arith }
 
-pub wrote-more : (r : ℕ → List ℕ) (w : ℕ) (xs : List ℕ) (at n : ℕ) (place : List ℕ) (e : ℕ) (b next : List ℕ) (end : ℕ)
-    → ((k : ℕ) → length (r k) ≡ w) → at ≤ length xs → Wrote r w xs at n place e → b ≡ r n → next ≡ written place e b → end ≡ e + length b
+pub wrote-more : (r : ℕ → List ℕ) (w : ℕ) (xs : List ℕ) (at n : ℕ) (place : List ℕ) (e : ℕ) (next : List ℕ) (end : ℕ)
+    → ((k : ℕ) → length (r k) ≡ w) → at ≤ length xs → Wrote r w xs at n place e → next ≡ written place e (r n) → end ≡ e + w
     → Wrote r w xs at (n + 1) next end
-wrote-more r w xs at n place e b next end h l o eb ew ee =
+wrote-more r w xs at n place e next end h l o hn he =
     let start : e ≡ at + length (records r n) = o .at-end ∙ ap (λ k. at + k) (sym (length-records r w h n)) in
-    record {
-      after =
-          ew
-          ∙ (ap (λ p. written p e b) (o .after)
-          ∙ (ap (λ k. written (written xs at (records r n)) k b) start
-          ∙ (written-written xs (records r n) b at l
-          ∙ (ap (λ s. written xs at (records r n ++ s)) eb ∙ rw add-one refl))));
-      at-end = omega (arith, o .at-end, ap length eb, h n, ee);
-    }
+    let put = put-more (r n) l (record { after = o .after; at-end = start }) hn (he ∙ ap (λ k. e + k) (sym (h n))) in
+    record { after = put .after ∙ rw add-one refl; at-end = omega (arith, o .at-end, he) }
 
 pub wrote-all : (r : ℕ → List ℕ) (w : ℕ) (xs : List ℕ) (at n m : ℕ) (place : List ℕ) (e : ℕ) → n ≡ m → Wrote r w xs at n place e → Wrote r w xs at m place e
 wrote-all r w xs at n m place e h o =
@@ -82,13 +81,13 @@ length-encoded d =
     simp length-append (omega (arith, p, f, r))
 
 -- ports, flows, rows and the end, written one behind the other
-pub written-encoded : (d : Draft) (xs p₁ p₂ p₃ p₄ b : List ℕ) (e₁ e₂ e₃ : ℕ)
+pub written-encoded : (d : Draft) (xs p₁ p₂ p₃ p₄ : List ℕ) (e₁ e₂ e₃ : ℕ)
     → p₁ ≡ written xs 0 (records (port-bytes d) (ports d)) → e₁ ≡ 0 + 17 * ports d
     → p₂ ≡ written p₁ e₁ (records (flow-bytes d) (flows d)) → e₂ ≡ e₁ + 27 * flows d
     → p₃ ≡ written p₂ e₂ (records (row-bytes d) (rows d)) → e₃ ≡ e₂ + 34 * rows d
-    → b ≡ end-record (ports d + flows d + rows d) → p₄ ≡ written p₃ e₃ b
+    → p₄ ≡ written p₃ e₃ (end-record (ports d + flows d + rows d))
     → p₄ ≡ encoded d ++ drop (encoded-size d) xs
-written-encoded d xs p₁ p₂ p₃ p₄ b e₁ e₂ e₃ h₁ k₁ h₂ k₂ h₃ k₃ hb h₄ =
+written-encoded d xs p₁ p₂ p₃ p₄ e₁ e₂ e₃ h₁ k₁ h₂ k₂ h₃ k₃ h₄ =
     let P = records (port-bytes d) (ports d) in
     let F = records (flow-bytes d) (flows d) in
     let R = records (row-bytes d) (rows d) in
@@ -96,11 +95,12 @@ written-encoded d xs p₁ p₂ p₃ p₄ b e₁ e₂ e₃ h₁ k₁ h₂ k₂ h�
     let p = length-records (port-bytes d) 17 (λ k. refl) (ports d) in
     let f = length-records (flow-bytes d) 27 (λ k. refl) (flows d) in
     let r = length-records (row-bytes d) 34 (λ k. refl) (rows d) in
-    let s₂ = written-on xs P F p₁ p₂ e₁ h₁ (omega (arith, p, k₁)) h₂ in
-    let n₂ : e₂ ≡ length (P ++ F) = simp length-append (omega (arith, p, f, k₁, k₂)) in
-    let s₃ = written-on xs (P ++ F) R p₂ p₃ e₂ s₂ n₂ h₃ in
-    let n₃ : e₃ ≡ length ((P ++ F) ++ R) = simp length-append (omega (arith, p, f, r, k₁, k₂, k₃)) in
-    let s₄ = written-on xs ((P ++ F) ++ R) E p₃ p₄ e₃ s₃ n₃ (h₄ ∙ ap (λ l. written p₃ e₃ l) hb) in
+    let z : 0 ≤ length xs = omega arith in
+    let n₁ : e₁ ≡ 0 + length P = omega (arith, p, k₁) in
+    let n₂ : e₂ ≡ e₁ + length F = omega (arith, f, k₂) in
+    let n₃ : e₃ ≡ e₂ + length R = omega (arith, r, k₃) in
+    let o₁ : Put xs 0 P p₁ e₁ = record { after = h₁; at-end = n₁ } in
+    let o₄ = put-more E z (put-more R z (put-more F z o₁ h₂ n₂) h₃ n₃) h₄ refl in
     let same : ((P ++ F) ++ R) ++ E ≡ encoded d = simp append-assoc in
     let n : 0 + length (encoded d) ≡ encoded-size d = omega (arith, length-encoded d) in
-    s₄ ∙ (ap (λ l. written xs 0 l) same ∙ ap (λ k. encoded d ++ drop k xs) n)
+    o₄ .after ∙ (ap (λ l. written xs 0 l) same ∙ ap (λ k. encoded d ++ drop k xs) n)

@@ -3,3 +3,4 @@ pub mod Faults
 pub mod Records
 pub mod Reads
 pub mod Writes
+pub mod Returns

@@ -1,10 +1,9 @@
 -- What a file says, record by record, or the first refusal with its place.
 use Prim.Native.Nat.{ℕ, zero, suc, _+_}
-use mathlib.Core.Bool.{Bool, cond, _&&_}
+use mathlib.Core.Bool.{cond, _&&_}
 use mathlib.Core.List.{List, [], _∷_}
-use lib.Dec.{eqb, leb, ltb}
+use lib.Dec.{eqb, ltb}
 use lib.ListN.{drop, length, set}
-use Rattle.std.specs.Results.{isOk}
 use Rattle.std.specs.declared.option.Option.{Option}
 use Rattle.std.specs.declared.option.Option.the-variants.{None, Some}
 use Rattle.std.specs.declared.result.Result.{Result}
@@ -15,7 +14,7 @@ use Rattle.draft.specs.declared.flow.Flow.{Flow}
 use Rattle.draft.specs.declared.port.Port.{Port}
 use Rattle.draft.specs.declared.table.Row.{Row}
 use Rattle.file.specs.Counts.{flows, ports, rows}
-use Rattle.file.specs.Records.{B-kind, E-kind, F-kind, P-kind, body-length, flow-of, number-at, port-of, row-flow, row-of}
+use Rattle.file.specs.Records.{B-kind, F-kind, P-kind, body-length, flow-of, number-at, port-of, row-flow, row-of}
 use Rattle.file.specs.declared.fault.FileFault.{FileFault}
 use Rattle.file.specs.declared.fault.FileFault.the-variants.{Count, Cut, Excess, Kind, Order, Trailing}
 use Rattle.file.specs.declared.reader.Progress.{Progress}

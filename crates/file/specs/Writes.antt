@@ -2,20 +2,17 @@
 use Prim.Native.Nat.{ℕ, zero, suc, _+_, _*_, _/_, _%_}
 use mathlib.Core.Bool.{Bool, cond, _&&_}
 use mathlib.Core.List.{List, [], _∷_, _++_}
-use mathlib.Core.Path.{_≡_}
 use lib.Dec.{leb}
-use lib.ListN.{drop, getD, length, replicate, take}
+use lib.ListN.{drop, getD, length, take}
 use Rattle.std.specs.Options.{isSome}
 use Rattle.std.specs.declared.option.Option.{Option}
 use Rattle.std.specs.declared.option.Option.the-variants.{None, Some}
-use Rattle.std.specs.declared.result.Result.the-variants.{Ok}
-use Rattle.draft.specs.Plans.{blank-flow, blank-row, flow-at, hop-port, hops, no-port, port-at, row-at}
+use Rattle.draft.specs.Plans.{flow-at, hop-port, hops, port-at, row-at}
 use Rattle.draft.specs.declared.draft.Draft.{Draft}
 use Rattle.draft.specs.declared.flow.Flow.{Flow}
 use Rattle.draft.specs.declared.port.Port.{Port}
 use Rattle.draft.specs.declared.table.Row.{Row}
 use Rattle.file.specs.Counts.{flows, ports, rows}
-use Rattle.file.specs.Reads.{read}
 use Rattle.file.specs.Records.{B-kind, E-kind, F-kind, P-kind}
 
 -- a number below 2 ^ 32 in four bytes, the highest first
@@ -33,13 +30,17 @@ abbrev pub flow-record : Flow → List ℕ
 flow-record w =
     F-kind ∷ (bytes-of (w .rate) ++ (bytes-of (w .burst) ++ (bytes-of (w .shortest) ++ (bytes-of (w .longest) ++ (hops w ∷ w .mask .bits ∷ path-bytes w)))))
 
+-- the first n of some pieces, one behind the other
+abbrev pub records : (ℕ → List ℕ) → ℕ → List ℕ
+records r zero = []
+records r (suc n) = records r n ++ r n
+
 abbrev pub cell-bytes : Row → ℕ → List ℕ
 cell-bytes r k = bytes-of (getD (r .cells) k 0)
 
 -- the row of flow f
 abbrev pub row-record : ℕ → Row → List ℕ
-row-record f r =
-    B-kind ∷ f ∷ (cell-bytes r 0 ++ (cell-bytes r 1 ++ (cell-bytes r 2 ++ (cell-bytes r 3 ++ (cell-bytes r 4 ++ (cell-bytes r 5 ++ (cell-bytes r 6 ++ cell-bytes r 7)))))))
+row-record f r = B-kind ∷ f ∷ records (cell-bytes r) 8
 
 -- the end, after so many records
 abbrev pub end-record : ℕ → List ℕ
@@ -54,11 +55,6 @@ flow-bytes d f = flow-record (flow-at (d .parts) f)
 
 abbrev pub row-bytes : Draft → ℕ → List ℕ
 row-bytes d f = row-record f (row-at (d .proposal .table) f)
-
--- the first n of some records
-abbrev pub records : (ℕ → List ℕ) → ℕ → List ℕ
-records r zero = []
-records r (suc n) = records r n ++ r n
 
 -- all records before the end
 abbrev pub front : Draft → List ℕ
@@ -93,28 +89,3 @@ encode-answer d room = fitting (file-size d) room
 -- what the place holds then: the file and the rest as it was, or all of it as it was
 abbrev pub encode-after : Draft → List ℕ → List ℕ
 encode-after d place = cond (isSome (encode-answer d (length place))) (encoded d ++ drop (encoded-size d) place) place
-
--- the first n of some things, and blanks past them
-abbrev pub fronted : {X : Type 0} → ℕ → List X → List X → List X
-fronted n xs blanks = take n xs ++ drop n blanks
-
--- a draft with its first i ports, j flows and k rows only
-abbrev pub cut-to : ℕ → ℕ → ℕ → Draft → Draft
-cut-to i j k d =
-    record {
-      parts =
-          record {
-            ports = fronted i (d .parts .ports) (replicate 32 no-port);
-            flows = fronted j (d .parts .flows) (replicate 64 blank-flow);
-            size = record { ports = i; flows = j };
-          };
-      proposal = record { table = record { rows = fronted k (d .proposal .table .rows) (replicate 64 blank-row) }; rows = k };
-    }
-
--- a draft without what stands past its counts
-abbrev pub tidied : Draft → Draft
-tidied d = cut-to (ports d) (flows d) (rows d) d
-
--- a file that says a draft is the file of that draft, and no other
-abbrev pub Sole : List ℕ → Type 0
-Sole bytes = (d : Draft) → read bytes ≡ Ok d → bytes ≡ encoded d

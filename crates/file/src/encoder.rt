@@ -8,20 +8,20 @@ ghost use Rattle.std.specs.Options.{isSome};
 ghost use Rattle.std.specs.declared.result.Result.the-variants.{Ok};
 ghost use Rattle.file.specs.Counts.{Few};
 ghost use Rattle.file.specs.Reads.{read};
-ghost use Rattle.file.specs.Writes.{encode-after, encode-answer, encoded, encoded-size, file-size, tidied};
+ghost use Rattle.file.specs.Returns.{tidied};
+ghost use Rattle.file.specs.Writes.{encode-after, encode-answer, encoded, encoded-size, file-size};
 use draft::Draft;
 use draft::limits::MOST_FLOWS;
 use draft::limits::MOST_PORTS;
-use records::end_record;
-use writing::put;
-use writing::put_flows;
-use writing::put_ports;
-use writing::put_rows;
+use parts::put_flows;
+use parts::put_ports;
+use parts::put_rows;
+use writing::put_end;
 
-mod records;
+mod parts;
 mod writing;
 
-// How many bytes the file of a draft has, if there can be one.
+// How many bytes the file of a draft has, if there can be one: 17 a port, 27 a flow, 34 a row, 5 for the end.
 fn file_size(draft: &Draft) -> Option<usize>
     ensures { λ r. ⌜ r ≡ file-size (now (draft .entry)) ⌝ }
 {
@@ -43,10 +43,10 @@ fn write(draft: &Draft, place: &mut [u8])
     let rows_at = put_flows(draft, place, flows_at);
     let end_at = put_rows(draft, place, rows_at);
     let before = draft.parts.size.ports + draft.parts.size.flows + draft.proposal.rows;
-    put(place, end_at, &end_record(before as u32));
+    put_end(place, end_at, before as u32);
 }
 
-// Writes the plan file of a draft at the front of a place, and tells its length; a draft that no file can say, or a file that the place has no room for, is not written at all.
+// Writes the plan file of a draft at the front of a place, and tells its length; without a file, or room for it, the place stays as it was.
 pub fn encode(draft: &Draft, place: &mut [u8]) -> Option<usize>
     ensures answer { λ r. ⌜ r ≡ encode-answer (now (draft .entry)) (length (now (place .entry))) ⌝ }
     ensures after { λ _. ⌜ now (place .exit) ≡ encode-after (now (draft .entry)) (now (place .entry)) ⌝ }

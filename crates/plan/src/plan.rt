@@ -7,6 +7,7 @@ ghost use Rattle.plan.specs.Checks.{faultless};
 use draft::Parts;
 
 mod check;
+mod rates;
 
 // Ports and flows that keep the limits.
 #[derive(Clone, Copy)]

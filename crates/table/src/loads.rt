@@ -1,17 +1,15 @@
 // Loads, delays and backlogs of ports by a table.
-ghost use mathlib.Core.Bool.{cond};
 ghost use mathlib.Core.Path.{_≡_};
 ghost use Prim.Native.Nat.{ℕ, _+_, _*_, _<_, _≤_};
 ghost use lib.ListN.{getD};
 ghost use Rattle.draft.specs.Plans.{flow-at, hops, port-at};
-ghost use Rattle.plan.specs.Limits.{crosses, rates-through};
+ghost use Rattle.plan.specs.Limits.{rates-through};
 ghost use Rattle.table.specs.Bounds.{Few, Routed, Serves, most-delay, most-load, most-row};
 ghost use Rattle.table.specs.Loads.{backlog, delay, delay-by, delays, gaps, load, load-in};
 use draft::Flow;
 use draft::Port;
 use draft::Row;
 use draft::Table;
-use draft::limits::MOST_HOPS;
 use draft::limits::MOST_PORTS;
 use plan::Plan;
 use rounding::up;
@@ -108,43 +106,13 @@ pub(crate) fn gaps(plan: &Plan, table: &Table) -> [u64; MOST_PORTS]
     found
 }
 
-// Whether the flow crosses port p.
-fn crosses(flow: &Flow, p: usize) -> bool
-    requires kept { ⌜ Routed (now flow) ⌝ }
-    ensures value { λ r. ⌜ r ≡ crosses (now (flow .entry)) p ⌝ }
-{
-    for k in 0..MOST_HOPS {
-        if k < flow.path.hops as usize && flow.path.ports[k] as usize == p {
-            return true;
-        }
-    }
-    false
-}
-
-// The flow's rate where it crosses port p, else 0.
-fn rate_at(flow: &Flow, p: usize) -> u64
-    requires kept { ⌜ Routed (now flow) ⌝ }
-    ensures value { λ r. ⌜ r ≡ cond (crosses (now (flow .entry)) p) (now (flow .entry) .rate) 0 ⌝ }
-    ensures few { λ r. ⌜ r ≤ 10000 ⌝ }
-{
-    if crosses(flow, p) {
-        flow.rate as u64
-    } else {
-        0
-    }
-}
-
-// r of a port: the rates that cross it, summed.
+// r of a port: the rates that cross it, summed, with the limit they keep.
 fn rates(plan: &Plan, p: usize) -> u64
     requires { ⌜ p < now plan .parts .size .ports ⌝ }
     ensures value { λ r. ⌜ r ≡ rates-through (now (plan .entry) .parts) p ⌝ }
     ensures few { λ r. ⌜ r ≤ 10000 ⌝ }
 {
-    let mut sum = 0;
-    for f in 0..plan.parts.size.flows {
-        sum += rate_at(flow_of(plan, f), p);
-    }
-    sum
+    plan.rates_through(p)
 }
 
 // B + r × D of a port by its B.

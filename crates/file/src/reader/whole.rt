@@ -2,7 +2,7 @@
 ghost use mathlib.Core.Path.{_≡_};
 ghost use Rattle.draft.specs.Plans.{empty-draft};
 ghost use Rattle.file.specs.Reads.{read, read-from};
-ghost use Rattle.file.specs.Writes.{Sole};
+ghost use Rattle.file.specs.Returns.{Sole};
 use super::Progress;
 use super::Reader;
 use crate::fault::FileFault;
@@ -24,7 +24,7 @@ fn records(mut reader: Reader, most: usize) -> Result<Draft, FileFault>
     Err(FileFault::Cut(reader.at))
 }
 
-// At the first record of a file; its numbers are bytes, so no other file says the same.
+// At the first record of a file; its numbers are bytes, so that no other file says the same.
 fn start<'a>(bytes: &'a [u8]) -> Reader<'a>
     ensures bytes { λ r. ⌜ now (r .bytes) ≡ now (bytes .entry) ⌝ }
     ensures start { λ r. ⌜ (r .at ≡ 0) × (r .draft ≡ empty-draft) ⌝ }
@@ -33,7 +33,7 @@ fn start<'a>(bytes: &'a [u8]) -> Reader<'a>
     Reader::new(bytes)
 }
 
-// What the file says, or its first refusal with the place where it shows.
+// What the file says, which no other file says, or its first refusal with the place where it shows.
 pub fn read(bytes: &[u8]) -> Result<Draft, FileFault>
     ensures value { λ r. ⌜ r ≡ read (now (bytes .entry)) ⌝ }
     ensures sole { λ _. ⌜ Sole (now (bytes .entry)) ⌝ }

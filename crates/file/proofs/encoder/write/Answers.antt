@@ -10,7 +10,7 @@ returns c =
     let d = c .args .draft .now in
     record {
       after =
-          written-encoded d (c .args .place .now) (p .last .place) (f .last .place) (r .last .place) (c .put .last .place) (c .end-record .result) (p .result) (f .result) (r .result)
-          (p .ensures .after) (p .ensures .end) (f .ensures .after) (f .ensures .end) (r .ensures .after) (r .ensures .end) (c .end-record .ensures) (c .put .ensures .after);
+          written-encoded d (c .args .place .now) (p .last .place) (f .last .place) (r .last .place) (c .put-end .last .place) (p .result) (f .result) (r .result)
+          (p .ensures .after) (p .ensures .end) (f .ensures .after) (f .ensures .end) (r .ensures .after) (r .ensures .end) (c .put-end .ensures .after);
       back = read-encoded d (c .pre .0) (p .ensures .sized) (f .ensures .sized) (r .ensures .sized);
     }
