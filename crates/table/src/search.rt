@@ -46,7 +46,7 @@ fn start_row(flow: &Flow) -> Row
 }
 
 // Each used cell at the flow's burst.
-fn start(plan: &Plan) -> Table
+pub(crate) fn start(plan: &Plan) -> Table
     ensures { λ r. ⌜ r ≡ start (now (plan .entry) .parts) ⌝ }
 {
     let mut table = zeros();
