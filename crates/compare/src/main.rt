@@ -93,13 +93,23 @@ fn compare_draft(draft: &Draft, outcome: Outcome, second: &Second) -> Verdict {
     }
 }
 
-fn count(tally: &mut Tally, draft: &Draft) {
+// Counts a kit; tells whether the two calculations differ on it.
+fn count(tally: &mut Tally, draft: &Draft) -> bool {
     let mut second = Second::new(&draft.parts);
     let outcome = second.outcome(draft);
     match compare_draft(draft, outcome, &second) {
-        Verdict::Same => count_outcome(tally, outcome),
-        Verdict::Undecided => tally.undecided = tally.undecided.saturating_add(1),
-        Verdict::Differing => tally.differing = tally.differing.saturating_add(1),
+        Verdict::Same => {
+            count_outcome(tally, outcome);
+            false
+        }
+        Verdict::Undecided => {
+            tally.undecided = tally.undecided.saturating_add(1);
+            false
+        }
+        Verdict::Differing => {
+            tally.differing = tally.differing.saturating_add(1);
+            true
+        }
     }
 }
 
@@ -141,11 +151,17 @@ fn main(rt: LibcRuntime) -> io::Result<()> {
     let mut rings = none;
     let mut nets = none;
     let mut proposals = none;
-    for _ in 0..200u32 {
-        count(&mut rings, &seed.ring());
+    for i in 0..200u32 {
+        if count(&mut rings, &seed.ring()) {
+            println!(rt, "ring {i} differs")?;
+        }
         let net = seed.net();
-        count(&mut nets, &net);
-        count(&mut proposals, &seed.proposal(net));
+        if count(&mut nets, &net) {
+            println!(rt, "net {i} differs")?;
+        }
+        if count(&mut proposals, &seed.proposal(net)) {
+            println!(rt, "proposal {i} differs")?;
+        }
     }
     tell(&rt, "rings", rings)?;
     tell(&rt, "nets", nets)?;
