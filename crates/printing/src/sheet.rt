@@ -101,13 +101,9 @@ fn no_line(out: &mut Queue<u8>, refusal: Refusal)
     ensures owner { λ _. ⌜ name (now (out .exit) .places) ≡ name (now (out .entry) .places) ⌝ }
     ensures after { λ _. ⌜ Printed (now (out .entry)) (no-line refusal) (now (out .exit)) ⌝ }
 {
-    triple(
-        out,
-        b"NO",
-        u64::from(refusal.layer),
-        u64::from(refusal.number),
-        refusal.place,
-    );
+    let layer = u64::from(refusal.layer);
+    let number = u64::from(refusal.number);
+    triple(out, b"NO", layer, number, refusal.place);
 }
 
 // The sheet of a quote.
