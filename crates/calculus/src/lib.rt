@@ -1,5 +1,7 @@
 // Discrete network calculus: token buckets, FIFO ports, delays, backlogs and regulators in whole slots, and the law over the runs of a system made of them.
 // The theorems hold for every count of windows and every curve; each stands on a call, so that the check asks for its proof.
+#![tactic(auto)]
+
 ghost use Rattle.calculus.specs.Buckets.{Passes, Rises, Starts};
 ghost use Rattle.calculus.specs.Hops.{Counts, Holds, Waits, Widens};
 ghost use Rattle.calculus.specs.Laws.{EveryRun};

@@ -1,4 +1,6 @@
 // Compares the library's figures with a second calculation, over many generated kits.
+#![tactic(auto)]
+
 mod kits;
 mod second;
 

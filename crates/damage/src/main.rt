@@ -1,4 +1,6 @@
 // Damages a plan file in every place and tells the answer to each: cut short, bytes changed, a record too many.
+#![tactic(auto)]
+
 ghost use Rattle.std.specs.Prelude.{◌≤◌, length, IfOk};
 
 use printing::quote_of;

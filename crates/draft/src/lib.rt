@@ -1,4 +1,6 @@
 // The plain data of a plan: ports, flows, paths, masks and burst rows, with their limits, before any check.
+#![tactic(auto)]
+
 pub mod draft;
 pub mod flow;
 pub mod limits;

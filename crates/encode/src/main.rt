@@ -1,4 +1,6 @@
 // Reads a kit as readable text on standard input and writes its plan file.
+#![tactic(auto)]
+
 use anyhow::anyhow;
 use draft::limits::{MOST_FLOWS, MOST_HOPS, MOST_PORTS, UNUSED};
 use draft::{Draft, Flow, Mask, Path, Port, Row};

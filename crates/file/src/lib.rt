@@ -1,4 +1,6 @@
 // Plan files: a list of records, read one at a time, and written whole.
+#![tactic(auto)]
+
 pub mod encoder;
 pub mod fault;
 mod fields;

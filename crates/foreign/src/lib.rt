@@ -1,4 +1,6 @@
 // The quote and the sheet of a plan file, for C and Rust to call.
+#![tactic(auto)]
+
 ghost use Rattle.std.specs.Prelude.{◌≡◌, length};
 ghost use Rattle.printing.specs.Sheets.{place_after, print_answer, sheet_quote};
 ghost use Rattle.foreign.specs.Outcomes.{count_of, outcome};

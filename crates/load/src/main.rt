@@ -1,5 +1,7 @@
 // A load on eight ports: each slot one put, takes until none is said at every port, and an advance.
 // The first argument is the number of slots, the others are the kinds of cabinet; a line for each tells what came out.
+#![tactic(auto)]
+
 use anyhow::anyhow;
 use cabinet::Cabinet;
 use draft::Port;

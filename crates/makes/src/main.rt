@@ -1,4 +1,6 @@
 // The worked example of cabinets: in which slots each make hands over the same three frames, and what is refused.
+#![tactic(auto)]
+
 use another_make::{Counting, Hesitant};
 use cabinet::{Cabinet, CabinetFault, drain};
 use draft::Port;

@@ -1,4 +1,6 @@
 // The network's model: its state, what offers and slot ends make of it, its runs, and what an accepted table promises of every run.
+#![tactic(auto)]
+
 ghost use Rattle.model.specs.Examples.{Story};
 ghost use Rattle.model.specs.Promises.{NeverStuck, Promised};
 

@@ -1,4 +1,6 @@
 // Plans that keep the limits, and what is wrong with those that do not.
+#![tactic(auto)]
+
 pub mod fault;
 mod flows;
 mod path;

@@ -1,4 +1,6 @@
 // The quote sheet as bytes in a place that the caller lends.
+#![tactic(auto)]
+
 pub mod fault;
 pub mod sheet;
 mod text;

@@ -1,4 +1,6 @@
 // How every layer says no: a number, its layer and a place.
+#![tactic(auto)]
+
 ghost use Rattle.std.specs.Prelude.{◌≡◌};
 ghost use Rattle.refusal.specs.Numbers.{refused};
 

@@ -1,4 +1,6 @@
 // Division rounded up: every delay, due slot and least stay is counted by it.
+#![tactic(auto)]
+
 ghost use Rattle.std.specs.Prelude.{◌≡◌, ℕ, ◌+◌, ◌*◌, ◌<◌, ◌≤◌};
 ghost use Rattle.rounding.specs.Quotients.{LeastCover, up};
 

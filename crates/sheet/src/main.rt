@@ -1,4 +1,6 @@
 // Reads a plan file on standard input and prints its quote sheet.
+#![tactic(auto)]
+
 ghost use Rattle.std.specs.Prelude.{◌≤◌, length, IfOk};
 
 use printing::print;

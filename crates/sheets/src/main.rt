@@ -1,4 +1,6 @@
 // Prints the sheets of many plan files, each after the file's name.
+#![tactic(auto)]
+
 use anyhow::anyhow;
 use plan::Plan;
 use printing::print;

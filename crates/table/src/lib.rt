@@ -1,4 +1,6 @@
 // Burst tables: the check of a proposed one, the search for the least, and the quote that either gives.
+#![tactic(auto)]
+
 pub mod bench;
 pub mod check;
 pub mod crowds;

@@ -10,7 +10,7 @@ pub returns : goal.returns
 returns c =
     let a = c.args.a in
     let b = c.args.b in
-    let e : c.div-ceil.result ≡ up a b = c.div-ceil.ensures ∙ up_by_rest a b c.requires in
+    let e : c.div_ceil.result ≡ up a b = c.div_ceil.ensures ∙ up_by_rest a b c.requires in
     record {
       value = e;
       least = let P : ℕ → Type 0 = λ q. LeastCover a b q in
