@@ -3,8 +3,8 @@ use Rattle.file.specs.Writes.{port_bytes}
 use Rattle.file.proofs.Writing.{wrote_all, wrote_more, wrote_none}
 use Rattle.file.proofs.encoder.parts.put_ports.Goals as goal
 
-pub put-port-end-requires : goal.put-port-end-requires
-put-port-end-requires c = omega (arith, c.loop-p.invariant.0.at_end)
+pub put_port-end-requires : goal.put_port-end-requires
+put_port-end-requires c = omega (arith, c.loop-p.invariant.0.at_end)
 
 pub loop-p-init : goal.loop-p-init
 loop-p-init c = (wrote_none (port_bytes c.args.draft.now) 17 c.args.place.now c.args.at, omega arith)
@@ -12,7 +12,7 @@ loop-p-init c = (wrote_none (port_bytes c.args.draft.now) 17 c.args.place.now c.
 pub loop-p-preserved : goal.loop-p-preserved
 loop-p-preserved c =
     let l = c.loop-p in
-    let put = c.put-port-end in (
+    let put = c.put_port-end in (
       wrote_more (port_bytes c.args.draft.now) 17 c.args.place.now c.args.at l.p l.place l.end put.new.place put.result
           (λ k. refl) (omega arith) l.invariant.0 put.ensures.after put.ensures.end,
       omega arith,

@@ -4,4 +4,4 @@ use Rattle.file.proofs.encoder.writing.put.Goals as goal
 
 pub returns : goal.returns
 returns c =
-    record { end = refl; after = put_mid_written c.args.place.now c.args.bytes.now _ c.args.at _ c.copy-from-slice.ensures.after (omega arith) }
+    record { end = refl; after = put_mid_written c.args.place.now c.args.bytes.now _ c.args.at _ c.copy_from_slice.ensures.after (omega arith) }

@@ -13,10 +13,10 @@ returns c =
     let h : at ≤ length xs = omega arith in
     let n : length w.path.ports ≡ 8 = search rules in
     let o₀ : Put xs at (flow_kind ∷ []) _ _ = record { after = c.put-rate.ensures.after; at_end = c.put-rate.ensures.end } in
-    let o₁ = put_more (bytes_of w.rate) h o₀ c.put-number-burst.ensures.after c.put-number-burst.ensures.end in
-    let o₂ = put_more (bytes_of w.burst) h o₁ c.put-number-shortest.ensures.after c.put-number-shortest.ensures.end in
-    let o₃ = put_more (bytes_of w.shortest) h o₂ c.put-number-longest.ensures.after c.put-number-longest.ensures.end in
-    let o₄ = put_more (bytes_of w.longest) h o₃ c.put-number-hops.ensures.after c.put-number-hops.ensures.end in
+    let o₁ = put_more (bytes_of w.rate) h o₀ c.put_number-burst.ensures.after c.put_number-burst.ensures.end in
+    let o₂ = put_more (bytes_of w.burst) h o₁ c.put_number-shortest.ensures.after c.put_number-shortest.ensures.end in
+    let o₃ = put_more (bytes_of w.shortest) h o₂ c.put_number-longest.ensures.after c.put_number-longest.ensures.end in
+    let o₄ = put_more (bytes_of w.longest) h o₃ c.put_number-hops.ensures.after c.put_number-hops.ensures.end in
     let o₅ = put_more (w.path.hops ∷ w.mask.bits ∷ []) h o₄ c.put-path.ensures.after c.put-path.ensures.end in
     let o₆ = put_more w.path.ports h o₅ c.put.ensures.after c.put.ensures.end in
     record {

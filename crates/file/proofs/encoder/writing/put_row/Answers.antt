@@ -4,8 +4,8 @@ use Rattle.file.specs.Writes.{cell_bytes, records}
 use Rattle.file.proofs.Writing.{Put, put_more, wrote_all, wrote_more, wrote_none}
 use Rattle.file.proofs.encoder.writing.put_row.Goals as goal
 
-pub put-number-end-requires : goal.put-number-end-requires
-put-number-end-requires c = omega (arith, c.loop-hop.invariant.at_end, c.put-cells.ensures.end)
+pub put_number-end-requires : goal.put_number-end-requires
+put_number-end-requires c = omega (arith, c.loop-hop.invariant.at_end, c.put-cells.ensures.end)
 
 pub loop-hop-init : goal.loop-hop-init
 loop-hop-init c = wrote_none (cell_bytes c.args.row.now) 4 c.put-cells.new.place c.put-cells.result
@@ -13,7 +13,7 @@ loop-hop-init c = wrote_none (cell_bytes c.args.row.now) 4 c.put-cells.new.place
 pub loop-hop-preserved : goal.loop-hop-preserved
 loop-hop-preserved c =
     let l = c.loop-hop in
-    let put = c.put-number-end in
+    let put = c.put_number-end in
     wrote_more (cell_bytes c.args.row.now) 4 c.put-cells.new.place c.put-cells.result l.hop l.place l.end put.new.place put.result
     (λ k. refl) (omega arith) l.invariant put.ensures.after put.ensures.end
 

@@ -9,15 +9,15 @@ returns-in-Done c =
     let r = c.loop-turn.reader in
     let s = c.step.new.self in
     let e = c.in-Ok.ensures in
-    sym (ap (λ p. then_read (Ok p) s.draft (read_from (most - (c.loop-turn.-turn + 1)) s.draft s.at xs)) c.in-Done.is)
-    ∙ (sym (turned most c.loop-turn.-turn r.draft s.draft r.at s.at xs r.bytes.now (Ok c.in-Ok.progress) c.loop-turn-test.true c.loop-turn.invariant.0 e.answer e.draft e.at)
+    sym (ap (λ p. then_read (Ok p) s.draft (read_from (most - (c.loop-turn._turn + 1)) s.draft s.at xs)) c.in-Done.is)
+    ∙ (sym (turned most c.loop-turn._turn r.draft s.draft r.at s.at xs r.bytes.now (Ok c.in-Ok.progress) c.loop-turn-test.true c.loop-turn.invariant.0 e.answer e.draft e.at)
     ∙ c.loop-turn.invariant.1)
 
 pub returns-in-Err : goal.returns-in-Err
 returns-in-Err c =
     let xs = c.args.reader.bytes.now in let most = c.args.most in
     let r = c.loop-turn.reader in
-    sym (stopped most c.loop-turn.-turn r.draft r.at xs r.bytes.now c.in-Err.fault c.loop-turn-test.true c.loop-turn.invariant.0 c.in-Err.ensures.answer)
+    sym (stopped most c.loop-turn._turn r.draft r.at xs r.bytes.now c.in-Err.fault c.loop-turn-test.true c.loop-turn.invariant.0 c.in-Err.ensures.answer)
     ∙ c.loop-turn.invariant.1
 
 pub loop-turn-preserved : goal.loop-turn-preserved
@@ -27,8 +27,8 @@ loop-turn-preserved c =
     let s = c.step.new.self in
     let e = c.in-Ok.ensures in (
       e.bytes ∙ c.loop-turn.invariant.0,
-      sym (ap (λ p. then_read (Ok p) s.draft (read_from (most - (c.loop-turn.-turn + 1)) s.draft s.at xs)) c.in-More.is)
-          ∙ (sym (turned most c.loop-turn.-turn r.draft s.draft r.at s.at xs r.bytes.now (Ok c.in-Ok.progress) c.loop-turn-test.true c.loop-turn.invariant.0 e.answer e.draft e.at)
+      sym (ap (λ p. then_read (Ok p) s.draft (read_from (most - (c.loop-turn._turn + 1)) s.draft s.at xs)) c.in-More.is)
+          ∙ (sym (turned most c.loop-turn._turn r.draft s.draft r.at s.at xs r.bytes.now (Ok c.in-Ok.progress) c.loop-turn-test.true c.loop-turn.invariant.0 e.answer e.draft e.at)
           ∙ c.loop-turn.invariant.1),
     )
 
@@ -36,5 +36,5 @@ pub returns : goal.returns
 returns c =
     let xs = c.args.reader.bytes.now in let most = c.args.most in
     let r = c.loop-turn.reader in
-    let z : most - c.loop-turn.-turn ≡ 0 = omega arith in
+    let z : most - c.loop-turn._turn ≡ 0 = omega arith in
     sym (ap (λ (n : ℕ). read_from n r.draft r.at xs) z) ∙ c.loop-turn.invariant.1
