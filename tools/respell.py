@@ -22,6 +22,7 @@ TOKEN = re.compile(r"[A-Za-z_][\w'₀-₉]*(?:-[A-Za-z0-9_][\w'₀-₉]*)*")
 DECLARED = re.compile(r"^\s*(?:(?:unfoldable|abbrev|pub|record|data|ruleset) )*(%s)\s*:(?!=)" % TOKEN.pattern)
 RECORD = re.compile(r"^\s*(?:pub )?(?:record|data) (%s)" % TOKEN.pattern)
 FIELD = re.compile(r"^\s+(?:pub )?(%s)\s*:(?!=)" % TOKEN.pattern)
+MODULE = re.compile(r"^use [\w.]+ as (\w+)$", re.M)
 LOCAL = re.compile(r"\blet (%s)\b(?=\s*[:=])" % TOKEN.pattern)
 
 
@@ -58,13 +59,15 @@ def gather():
 
 def turned(text, names, fields, quotes):
     out, at = [], 0
+    modules = {alias for alias in MODULE.findall(text) if alias != "goal"}
     for m in TOKEN.finditer(text):
         name = m.group(0)
         if name not in names:
             continue
         before = text[max(0, m.start() - 1) : m.start()]
         line = text[text.rfind("\n", 0, m.start()) + 1 : m.start()]
-        if before == "." and name not in fields:
+        module = re.search(r"(?<![\w.])(\w+)\.$", text[: m.start()])
+        if before == "." and name not in fields and not (module and module.group(1) in modules):
             continue
         if quotes and line.count('"') % 2 == 1:
             continue

@@ -6,7 +6,7 @@ use Rattle.plan.specs.declared.fault.PlanFault.{PlanFault}
 use Rattle.plan.specs.declared.fault.PlanFault.TheVariants.{Bucket, Figures, File, Frames, Mask, Path, Rates, Stay}
 
 abbrev pub refusal_of : PlanFault → Refusal
-refusal_of (File fault) = files.refusal-of fault
+refusal_of (File fault) = files.refusal_of fault
 refusal_of (Figures port) = refused 10 port
 refusal_of (Stay port) = refused 11 port
 refusal_of (Bucket flow) = refused 12 flow

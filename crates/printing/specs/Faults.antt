@@ -7,6 +7,6 @@ use Rattle.printing.specs.declared.fault.SheetFault.{SheetFault}
 use Rattle.printing.specs.declared.fault.SheetFault.TheVariants.{Place, Plan, Table}
 
 abbrev pub refusal_of : SheetFault → Refusal
-refusal_of (Plan fault) = plans.refusal-of fault
-refusal_of (Table fault) = tables.refusal-of fault
+refusal_of (Plan fault) = plans.refusal_of fault
+refusal_of (Table fault) = tables.refusal_of fault
 refusal_of Place = refused 27 0

@@ -14,14 +14,14 @@ loop-frame-init g c =
 
 pub loop-frame-smaller : goal.loop-frame-smaller
 loop-frame-smaller g c =
-    let left = fetched_room (g.C.Cabinet.model c.args.cabinet.now) (g.C.Cabinet.model c.loop-frame.cabinet) (g.C.Cabinet.model c.take.new.self) c.args.port c.loop-frame.branch c.in-Some.frame c.in-Some.frame c.loop-frame.invariant.1 c.in-Some.ensures in
+    let left = fetched_room (g.C.Cabinet.model c.args.cabinet.now) (g.C.Cabinet.model c.loop-frame.cabinet) (g.C.Cabinet.model c.take.new.self) c.args.port c.loop-frame.came c.in-Some.frame c.in-Some.frame c.loop-frame.invariant.1 c.in-Some.ensures in
     omega arith
 
 pub loop-frame-preserved : goal.loop-frame-preserved
 loop-frame-preserved g c =
     let m = g.C.Cabinet.model c.args.cabinet.now in
     let p = c.args.port in
-    let n = c.loop-frame.branch in
+    let n = c.loop-frame.came in
     let x = c.in-Some.frame in
     let before = g.C.Cabinet.model c.loop-frame.cabinet in
     let after = g.C.Cabinet.model c.take.new.self in
@@ -43,7 +43,7 @@ returns g c =
       owner = c.loop-frame.invariant.0;
       after = (
         omega (arith, c.if-capacity-len.false, c.capacity.ensures.value, c.capacity.ensures.within, c.len.ensures.count, c.waiting.ensures),
-        fetched_all (g.C.Cabinet.model c.args.cabinet.now) (g.C.Cabinet.model c.loop-frame.cabinet) (g.C.Cabinet.model c.take.new.self) c.args.port c.loop-frame.branch c.loop-frame.invariant.1 c.in-default.ensures,
+        fetched_all (g.C.Cabinet.model c.args.cabinet.now) (g.C.Cabinet.model c.loop-frame.cabinet) (g.C.Cabinet.model c.take.new.self) c.args.port c.loop-frame.came c.loop-frame.invariant.1 c.in_default.ensures,
         c.loop-frame.invariant.2,
       );
     }

@@ -15,10 +15,10 @@ returns c =
     let w = flow_at P f in
     let n = c.args.before + c.count.result in
     let e : n ≡ regulators_of P (suc f) = omega (arith, c.requires.0, c.count.ensures.value) in
-    let m : mask_fits w && leb n 32 ≡ true = sym c.if-not-regulators-fit.ensures in (
-      thens _ _ (passes (ltb f 64 && bucket_fits w) (Bucket f) (and_from (ltb f 64) (bucket_fits w) (lt-ltb f 64 c.if-f-ge-MOST-FLOWS.false) (sym c.if-not-bucket-fits.ensures)))
-          (thens _ _ (passes (path_fits P.size.ports w) (Path f) (sym c.if-not-path-fits.ensures))
-          (thens _ _ (passes (all_below (frame_fits P w) (hops w)) (Frames f) (sym c.if-not-frames-fit.ensures))
+    let m : mask_fits w && leb n 32 ≡ true = sym c.if-not-regulators_fit.ensures in (
+      thens _ _ (passes (ltb f 64 && bucket_fits w) (Bucket f) (and_from (ltb f 64) (bucket_fits w) (lt-ltb f 64 c.if-f-ge-MOST_FLOWS.false) (sym c.if-not-bucket_fits.ensures)))
+          (thens _ _ (passes (path_fits P.size.ports w) (Path f) (sym c.if-not-path_fits.ensures))
+          (thens _ _ (passes (all_below (frame_fits P w) (hops w)) (Frames f) (sym c.if-not-frames_fit.ensures))
           (passes (mask_fits w && leb (regulators_of P (suc f)) 32) (Mask f) (subst (λ (i : ℕ). mask_fits w && leb i 32 ≡ true) e m)))),
       rw add-one e,
       leb-true n 32 (and_parts (mask_fits w) (leb n 32) m).1,

@@ -5,17 +5,17 @@ use Rattle.plan.specs.Checks.{port_answer}
 use Rattle.plan.proofs.Keeps.{few_ports}
 use Rattle.plan.proofs.ports.check_ports.Goals as goal
 
-pub returns-in-err-check-port : goal.returns-in-err-check-port
-returns-in-err-check-port c =
+pub returns-in_err-check_port : goal.returns-in_err-check_port
+returns-in_err-check_port c =
     let P = c.args.parts.now in
-    let p = err_from_is_err_and c.from-residual.result c.from-residual.ensures.1 in
+    let p = err_from_is_err_and c.from_residual.result c.from_residual.ensures.1 in
     rw (p.1, p.2) (record {
-      answer = first_refusal_stop (port_answer P) P.size.ports c.loop-p.p _ c.loop-p-test.true c.loop-p.invariant c.in-err-check-port.ensures;
+      answer = first_refusal_stop (port_answer P) P.size.ports c.loop-p.p _ c.loop-p-test.true c.loop-p.invariant c.in_err-check_port.ensures;
       few = tt;
     })
 
 pub loop-p-preserved : goal.loop-p-preserved
-loop-p-preserved c = first_refusal_more (port_answer c.args.parts.now) c.loop-p.p c.loop-p.invariant (sym c.in-ok-check-port.ensures)
+loop-p-preserved c = first_refusal_more (port_answer c.args.parts.now) c.loop-p.p c.loop-p.invariant (sym c.in_ok-check_port.ensures)
 
 pub returns : goal.returns
 returns c =

@@ -6,8 +6,8 @@ use Rattle.plan.specs.Rates.{rate_in}
 use Rattle.plan.proofs.Sums.{add_at, rate_crossing}
 use Rattle.plan.proofs.rates.add_rate.Goals as goal
 
-pub overflow-add-sums : goal.overflow-add-sums
-overflow-add-sums c =
+pub overflow_add-sums : goal.overflow_add-sums
+overflow_add-sums c =
     let h = hop_port c.args.flow.now c.loop-hop.hop in
     let i : h < 32 = c.requires.path.crossed c.loop-hop.hop c.loop-hop-test.true in
     omega (arith, c.loop-hop.invariant.1 h i, c.requires.few h i, c.requires.path.hops_most)

@@ -11,7 +11,7 @@ returns-in-Err c =
     let t = c.args.table.now in
     let f = c.loop-f.f in
     rows_at (λ f. cells_in f (flow_at P f) (row_at t f)) P.size.flows f c.in-Err.fault c.loop-f-test.true c.loop-f.invariant
-    (c.in-Err.ensures ∙ ap (λ (w : Flow). cells_in f w (row_at t f)) c.flow-of.ensures.value)
+    (c.in-Err.ensures ∙ ap (λ (w : Flow). cells_in f w (row_at t f)) c.flow_of.ensures.value)
 
 pub loop-f-preserved : goal.loop-f-preserved
 loop-f-preserved c =
@@ -19,4 +19,4 @@ loop-f-preserved c =
     let t = c.args.table.now in
     let f = c.loop-f.f in
     rows_more (λ f. cells_in f (flow_at P f) (row_at t f)) f c.loop-f.invariant
-    (c.in-Ok.ensures ∙ ap (λ (w : Flow). cells_in f w (row_at t f)) c.flow-of.ensures.value)
+    (c.in-Ok.ensures ∙ ap (λ (w : Flow). cells_in f w (row_at t f)) c.flow_of.ensures.value)

@@ -4,13 +4,13 @@ use Rattle.table.specs.declared.fault.TableFault.TheVariants.{Cell}
 use Rattle.table.proofs.Turns.{tests_all, tests_at, tests_more}
 use Rattle.table.proofs.check.cells_in.Goals as goal
 
-pub returns-then-not-cell-fits : goal.returns-then-not-cell-fits
-returns-then-not-cell-fits c =
-    tests_at (cell_fits c.args.flow.now c.args.row.now) (λ k. Cell (c.args.f * 8 + k)) 8 c.loop-k.k c.loop-k-test.true c.loop-k.invariant (sym c.if-not-cell-fits.ensures)
+pub returns-then-not-cell_fits : goal.returns-then-not-cell_fits
+returns-then-not-cell_fits c =
+    tests_at (cell_fits c.args.flow.now c.args.row.now) (λ k. Cell (c.args.f * 8 + k)) 8 c.loop-k.k c.loop-k-test.true c.loop-k.invariant (sym c.if-not-cell_fits.ensures)
 
 pub loop-k-preserved : goal.loop-k-preserved
 loop-k-preserved c =
-    tests_more (cell_fits c.args.flow.now c.args.row.now) (λ k. Cell (c.args.f * 8 + k)) c.loop-k.k c.loop-k.invariant (sym c.if-not-cell-fits.ensures)
+    tests_more (cell_fits c.args.flow.now c.args.row.now) (λ k. Cell (c.args.f * 8 + k)) c.loop-k.k c.loop-k.invariant (sym c.if-not-cell_fits.ensures)
 
 pub returns : goal.returns
 returns c = tests_all (cell_fits c.args.flow.now c.args.row.now) (λ k. Cell (c.args.f * 8 + k)) 8 c.loop-k.k (omega arith) c.loop-k.invariant

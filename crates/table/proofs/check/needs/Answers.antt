@@ -14,5 +14,5 @@ pub returns-in-Ok : goal.returns-in-Ok
 returns-in-Ok c =
     let P = c.args.plan.now.parts in
     let t = c.args.table.now in
-    c.crowds-by.ensures t c.reckon-figures.ensures.value
+    c.crowds_by.ensures t c.reckon-figures.ensures.value
     ∙ ap (λ (a : Result (Unit {0}) TableFault). and_then a (crowds_answer P t)) (c.in-Ok.ensures ∙ ap (λ (gs : List ℕ). lows_by P gs t) c.reckon-figures.ensures.value.gaps)

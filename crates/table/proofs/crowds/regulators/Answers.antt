@@ -12,7 +12,7 @@ returns-in-Err c =
     let ds = c.args.delays.now in
     let f = c.loop-f.f in
     rows_at (λ f. regulators_in f (flow_at P f) ds) P.size.flows f c.in-Err.fault c.loop-f-test.true c.loop-f.invariant
-    (c.in-Err.ensures ∙ ap (λ (w : Flow). regulators_in f w ds) c.flow-of.ensures.value)
+    (c.in-Err.ensures ∙ ap (λ (w : Flow). regulators_in f w ds) c.flow_of.ensures.value)
 
 pub loop-f-preserved : goal.loop-f-preserved
 loop-f-preserved c =
@@ -20,7 +20,7 @@ loop-f-preserved c =
     let ds = c.args.delays.now in
     let f = c.loop-f.f in
     rows_more (λ f. regulators_in f (flow_at P f) ds) f c.loop-f.invariant
-    (c.in-Ok.ensures ∙ ap (λ (w : Flow). regulators_in f w ds) c.flow-of.ensures.value)
+    (c.in-Ok.ensures ∙ ap (λ (w : Flow). regulators_in f w ds) c.flow_of.ensures.value)
 
 pub returns : goal.returns
 returns c =

@@ -7,23 +7,23 @@ use Rattle.table.proofs.Crowding.{regulators_none}
 use Rattle.table.proofs.Turns.{tests_all, tests_at, tests_more}
 use Rattle.table.proofs.crowds.regulators_in.Goals as goal
 
-pub returns-then-not-regulator-fits : goal.returns-then-not-regulator-fits
-returns-then-not-regulator-fits c =
+pub returns-then-not-regulator_fits : goal.returns-then-not-regulator_fits
+returns-then-not-regulator_fits c =
     let w = c.args.flow.now in
     let ds = c.args.delays.now in
     let k = c.loop-k.k in
     tests_at (λ k. regulator_fits w (stretch_by w ds k) k) (λ k. Crowded (32 + (c.args.f * 8 + k))) (hops w) k c.loop-k-test.true c.loop-k.invariant.2
-    (sym (c.if-not-regulator-fits.ensures ∙ ap (λ (x : ℕ). regulator_fits w x k) c.loop-k.invariant.0))
+    (sym (c.if-not-regulator_fits.ensures ∙ ap (λ (x : ℕ). regulator_fits w x k) c.loop-k.invariant.0))
 
 pub loop-k-preserved : goal.loop-k-preserved
 loop-k-preserved c =
     let w = c.args.flow.now in
     let ds = c.args.delays.now in
     let k = c.loop-k.k in (
-      rw (add-one k) (c.stretch-after-stretch.ensures.value ∙ ap (λ (x : ℕ). stretch_after w ds x k) c.loop-k.invariant.0),
-      omega (arith, c.stretch-after-stretch.ensures.few, c.loop-k.invariant.1),
+      rw (add-one k) (c.stretch_after-stretch.ensures.value ∙ ap (λ (x : ℕ). stretch_after w ds x k) c.loop-k.invariant.0),
+      omega (arith, c.stretch_after-stretch.ensures.few, c.loop-k.invariant.1),
       tests_more (λ k. regulator_fits w (stretch_by w ds k) k) (λ k. Crowded (32 + (c.args.f * 8 + k))) k c.loop-k.invariant.2
-          (sym (c.if-not-regulator-fits.ensures ∙ ap (λ (x : ℕ). regulator_fits w x k) c.loop-k.invariant.0)),
+          (sym (c.if-not-regulator_fits.ensures ∙ ap (λ (x : ℕ). regulator_fits w x k) c.loop-k.invariant.0)),
     )
 
 pub returns : goal.returns

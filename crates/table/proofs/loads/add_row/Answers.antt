@@ -5,8 +5,8 @@ use Rattle.draft.specs.Plans.{hop_port}
 use Rattle.plan.proofs.Sums.{add_at}
 use Rattle.table.proofs.loads.add_row.Goals as goal
 
-pub overflow-add-sums : goal.overflow-add-sums
-overflow-add-sums c =
+pub overflow_add-sums : goal.overflow_add-sums
+overflow_add-sums c =
     let h = hop_port c.args.flow.now c.loop-k.k in
     let i : h < 32 = c.requires.kept.crossed c.loop-k.k c.loop-k-test.true in
     let v : get_or c.args.row.now.cells c.loop-k.k 0 < 4294967296 = search rules in

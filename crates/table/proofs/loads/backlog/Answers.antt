@@ -8,4 +8,4 @@ returns c =
     let P = c.args.plan.now.parts in
     let p = c.args.p in
     let within = ports_few P c.args.plan.now.kept p c.if-p-plan.false in
-    record { value = backlog_at P c.args.table.now p c.backlog-by.result (get_or c.loads.result p 0) c.if-p-plan.false (c.loads.ensures.value p within) c.backlog-by.ensures.value }
+    record { value = backlog_at P c.args.table.now p c.backlog_by.result (get_or c.loads.result p 0) c.if-p-plan.false (c.loads.ensures.value p within) c.backlog_by.ensures.value }

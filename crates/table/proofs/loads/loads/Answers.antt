@@ -15,7 +15,7 @@ loop-f-preserved c =
     let added : Flow → ℕ → ℕ = λ w p. load_in w (row_at c.args.table.now f) p (hops w) in (
       λ p lt.
           rw (add-one f)
-          (c.add-row.ensures.value p lt ∙ ap (λ (n : ℕ). n + added c.flow-of.result.now p) (c.loop-f.invariant.0 p lt)
-          ∙ ap (λ (w : Flow). load_of P c.args.table.now p f + added w p) c.flow-of.ensures.value),
-      λ p lt. omega (arith, c.add-row.ensures.few p lt, c.loop-f.invariant.1 p lt),
+          (c.add_row.ensures.value p lt ∙ ap (λ (n : ℕ). n + added c.flow_of.result.now p) (c.loop-f.invariant.0 p lt)
+          ∙ ap (λ (w : Flow). load_of P c.args.table.now p f + added w p) c.flow_of.ensures.value),
+      λ p lt. omega (arith, c.add_row.ensures.few p lt, c.loop-f.invariant.1 p lt),
     )

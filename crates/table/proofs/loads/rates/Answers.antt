@@ -4,5 +4,5 @@ use Rattle.table.proofs.loads.rates.Goals as goal
 
 pub returns : goal.returns
 returns c =
-    let v = c.rates-through.ensures.value in
+    let v = c.rates_through.ensures.value in
     record { value = v; few = omega (arith, v, rates_few c.args.plan.now.parts c.args.plan.now.kept c.args.p c.requires) }

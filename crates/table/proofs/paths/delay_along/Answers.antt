@@ -6,8 +6,8 @@ use Rattle.table.proofs.paths.delay_along.Goals as goal
 pub loop-k-preserved : goal.loop-k-preserved
 loop-k-preserved c =
     let before = delay_along c.args.flow.now c.args.delays.now c.loop-k.k in (
-      rw (add-one c.loop-k.k) (ap (λ (n : ℕ). n + c.at-hop-sum.result) c.loop-k.invariant.0 ∙ ap (λ (n : ℕ). before + n) c.at-hop-sum.ensures.value),
-      omega (arith, c.loop-k.invariant.1, c.at-hop-sum.ensures.few),
+      rw (add-one c.loop-k.k) (ap (λ (n : ℕ). n + c.at_hop-sum.result) c.loop-k.invariant.0 ∙ ap (λ (n : ℕ). before + n) c.at_hop-sum.ensures.value),
+      omega (arith, c.loop-k.invariant.1, c.at_hop-sum.ensures.few),
     )
 
 pub returns : goal.returns

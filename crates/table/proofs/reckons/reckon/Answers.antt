@@ -28,18 +28,18 @@ loop-p-preserved c =
     let gs = c.loop-p.gaps in
     let p = c.loop-p.p in
     let bs = c.loads-loads.result in
-    let d = c.delay-by-delay.result in
-    let g = c.saturating-sub.result in
-    let within : p < 32 = c.port-of-port.ensures.within in
+    let d = c.delay_by-delay.result in
+    let g = c.saturating_sub.result in
+    let within : p < 32 = c.port_of-port.ensures.within in
     let i : p < length ds = omega arith in
     let j : p < length gs = omega arith in
-    let e : d ≡ delay_by (port_at P p) (get_or bs p 0) = c.delay-by-delay.ensures.value ∙ ap (λ (q : Port). delay_by q (get_or bs p 0)) c.port-of-port.ensures.value in
+    let e : d ≡ delay_by (port_at P p) (get_or bs p 0) = c.delay_by-delay.ensures.value ∙ ap (λ (q : Port). delay_by q (get_or bs p 0)) c.port_of-port.ensures.value in
     let h : g ≡ delay_by (port_at P p) (get_or bs p 0) - (port_at P p).stay =
-    c.saturating-sub.ensures ∙ ap (λ (d : ℕ). d - c.port-of-port.result.stay) e ∙ ap (λ (q : Port). delay_by (port_at P p) (get_or bs p 0) - q.stay) c.port-of-port.ensures.value in
-    let s : g ≤ most_delay = omega (arith, c.saturating-sub.ensures, c.delay-by-delay.ensures.few) in (
+    c.saturating_sub.ensures ∙ ap (λ (d : ℕ). d - c.port_of-port.result.stay) e ∙ ap (λ (q : Port). delay_by (port_at P p) (get_or bs p 0) - q.stay) c.port_of-port.ensures.value in
+    let s : g ≤ most_delay = omega (arith, c.saturating_sub.ensures, c.delay_by-delay.ensures.few) in (
       length-set ds p d ∙ c.loop-p.invariant.0,
       λ k lt. fill_more (λ j. delay_by (port_at P j) (get_or bs j 0)) (λ _. 0) ds p d 0 i e (λ j h. c.loop-p.invariant.1 j (omega arith)) k (omega arith),
-      set_few most_delay 32 ds p d c.loop-p.invariant.0 c.delay-by-delay.ensures.few c.loop-p.invariant.2,
+      set_few most_delay 32 ds p d c.loop-p.invariant.0 c.delay_by-delay.ensures.few c.loop-p.invariant.2,
       length-set gs p g ∙ c.loop-p.invariant.3,
       λ k lt. fill_more (λ j. delay_by (port_at P j) (get_or bs j 0) - (port_at P j).stay) (λ _. 0) gs p g 0 j h (λ j h. c.loop-p.invariant.4 j (omega arith)) k (omega arith),
       set_few most_delay 32 gs p g c.loop-p.invariant.3 s c.loop-p.invariant.5,

@@ -20,13 +20,13 @@ loop-p-preserved c =
     let gs = c.loop-p.found in
     let bs = c.args.loads.now in
     let p = c.loop-p.p in
-    let g = c.saturating-sub.result in
-    let within : p < 32 = c.port-of-port.ensures.within in
+    let g = c.saturating_sub.result in
+    let within : p < 32 = c.port_of-port.ensures.within in
     let i : p < length gs = omega arith in
     let h : g ≡ delay_by (port_at P p) (get_or bs p 0) - (port_at P p).stay =
-    c.saturating-sub.ensures ∙ ap (λ (d : ℕ). d - c.port-of-port.result.stay) c.delay-by.ensures.value
-    ∙ ap (λ (q : Port). delay_by q (get_or bs p 0) - q.stay) c.port-of-port.ensures.value in
-    let s : g ≤ most_delay = omega (arith, c.saturating-sub.ensures, c.delay-by.ensures.few) in (
+    c.saturating_sub.ensures ∙ ap (λ (d : ℕ). d - c.port_of-port.result.stay) c.delay_by.ensures.value
+    ∙ ap (λ (q : Port). delay_by q (get_or bs p 0) - q.stay) c.port_of-port.ensures.value in
+    let s : g ≤ most_delay = omega (arith, c.saturating_sub.ensures, c.delay_by.ensures.few) in (
       length-set gs p g ∙ c.loop-p.invariant.0,
       λ k lt. fill_more (λ j. delay_by (port_at P j) (get_or bs j 0) - (port_at P j).stay) (λ j. get_or c.args.found.now j 0) gs p g 0 i h (λ j h. c.loop-p.invariant.1 j (omega arith)) k (omega arith),
       λ k lt. elim (ℕ_discrete k p) [

@@ -12,7 +12,7 @@ use Rattle.table.proofs.Places.{fill_more}
 use Rattle.table.proofs.Tables.{row_over, used_cell}
 use Rattle.table.proofs.Turns.{tests_all, tests_at, tests_more}
 use Rattle.table.proofs.rounds.make_row.Goals as goal
-use Rattle.table.proofs.rounds.make_row.Goals.{else_same, then_same}
+use Rattle.table.proofs.rounds.make_row.Goals.{else-same, then-same}
 
 pub loop-k-init : goal.loop-k-init
 loop-k-init c = (
@@ -26,8 +26,8 @@ loop-k-init c = (
   λ p lt. omega arith,
 )
 
-pub overflow-add-sums : goal.overflow-add-sums
-overflow-add-sums c =
+pub overflow_add-sums : goal.overflow_add-sums
+overflow_add-sums c =
     let h = hop_port c.args.flow.now c.loop-k.k in
     let i : h < 32 = c.requires.kept.crossed c.loop-k.k c.loop-k-test.true in
     omega (arith, c.loop-k.invariant.7 h i, c.requires.room h i, c.requires.kept.hops_most, c.if-need.false)
@@ -60,8 +60,8 @@ loop-k-preserved c =
     let before : c.loop-k.same ≡ same_row w gs old k = c.loop-k.invariant.4 in
     let test = λ (b : Bool). b && eqb (made w gs k) (get_or old.cells k 0) in
     let here : c.if-same.same ≡ test (same_row w gs old k) = elim c.if-same.branch [
-      | then_same o ↦ o.same-is ∙ ap (λ (n : ℕ). eqb n (get_or old.cells k 0)) c.loop-k.invariant.2 ∙ ap test (sym o.if-same.true ∙ before)
-      | else_same o ↦ o.same-is ∙ o.if-same.false ∙ ap test (sym o.if-same.false ∙ before)
+      | then-same o ↦ o.same-is ∙ ap (λ (n : ℕ). eqb n (get_or old.cells k 0)) c.loop-k.invariant.2 ∙ ap test (sym o.if-same.true ∙ before)
+      | else-same o ↦ o.same-is ∙ o.if-same.false ∙ ap test (sym o.if-same.false ∙ before)
     ] in
     let h = hop_port w k in
     let ys = c.loop-k.sums in
@@ -69,7 +69,7 @@ loop-k-preserved c =
     let cell : x ≡ get_or (made_row w gs).cells k 0 = c.loop-k.invariant.2 ∙ sym (used_cell w (made w gs) k c.requires.kept.hops_most c.loop-k-test.true) in (
       length-set xs k x ∙ c.loop-k.invariant.0,
       λ j lt. fill_more (made w gs) (λ j. get_or c.args.row.now.cells j 0) xs k x 0 i c.loop-k.invariant.2 (λ a b. c.loop-k.invariant.1 a (omega arith)) j (omega arith),
-      rw (add-one k) (c.need-after-need.ensures.value ∙ ap (λ (n : ℕ). need_after w gs n k) c.loop-k.invariant.2),
+      rw (add-one k) (c.need_after-need.ensures.value ∙ ap (λ (n : ℕ). need_after w gs n k) c.loop-k.invariant.2),
       tests_more (λ k. leb (made w gs k) 1000000000) (λ k. Climbs (c.args.f * 8 + k)) k c.loop-k.invariant.3 within,
       rw (add-one k) here,
       length-set ys h (get_or ys h 0 + x) ∙ c.loop-k.invariant.5,

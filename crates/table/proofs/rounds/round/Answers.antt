@@ -25,18 +25,18 @@ loop-f-init c = (
   λ p lt. omega (arith, c.requires.empty p lt),
 )
 
-pub make-row-requires : goal.make-row-requires
-make-row-requires c =
+pub make_row-requires : goal.make_row-requires
+make_row-requires c =
     let P = c.args.plan.now.parts in
     let f = c.loop-f.f in
-    let within : f < 64 = c.flow-of.ensures.within in
+    let within : f < 64 = c.flow_of.ensures.within in
     let e : row_at c.loop-f.made f ≡ row_at c.args.table f = c.loop-f.invariant.1 f within ∙ (rw (le-ltb f f (omega arith))) in
-    let t = subst (λ (w : Flow). Tidy w (row_at c.args.table f)) (sym c.flow-of.ensures.value) (c.requires.shape.used f c.loop-f-test.true) in
+    let t = subst (λ (w : Flow). Tidy w (row_at c.args.table f)) (sym c.flow_of.ensures.value) (c.requires.shape.used f c.loop-f-test.true) in
     record {
       number = within;
-      kept = c.flow-of.ensures.kept;
+      kept = c.flow_of.ensures.kept;
       few = c.requires.few;
-      tidy = subst (λ (r : Row). Tidy c.flow-of.result.now r) (sym e) t;
+      tidy = subst (λ (r : Row). Tidy c.flow_of.result.now r) (sym e) t;
       room = λ p lt. omega (arith, c.loop-f.invariant.5 p lt);
     }
 
@@ -47,7 +47,7 @@ returns-in-Err c =
     let gs = c.args.gaps.now in
     let f = c.loop-f.f in
     let row = λ (w : Flow). gives (climb_in f w gs) (same_row w gs (row_at t f) (hops w)) in
-    let e : Err c.in-Err.fault ≡ row (flow_at P f) = c.in-Err.ensures.answer ∙ ap row c.flow-of.ensures.value in
+    let e : Err c.in-Err.fault ≡ row (flow_at P f) = c.in-Err.ensures.answer ∙ ap row c.flow_of.ensures.value in
     let r : Err c.in-Err.fault ≡ climb P gs =
     rows_at (λ f. climb_in f (flow_at P f) gs) P.size.flows f c.in-Err.fault c.loop-f-test.true c.loop-f.invariant.2
     (gives_err (climb_in f (flow_at P f) gs) (same_row (flow_at P f) gs (row_at t f) (hops (flow_at P f))) c.in-Err.fault e) in
@@ -65,12 +65,12 @@ loop-f-preserved c =
     let gs = c.args.gaps.now in
     let f = c.loop-f.f in
     let xs = c.loop-f.made.rows in
-    let x = c.make-row.new.row in
-    let within : f < 64 = c.flow-of.ensures.within in
+    let x = c.make_row.new.row in
+    let within : f < 64 = c.flow_of.ensures.within in
     let same = λ (w : Flow). same_row w gs (row_at t f) (hops w) in
     let row = λ (w : Flow). gives (climb_in f w gs) (same w) in
-    let e = gives_ok (climb_in f (flow_at P f) gs) (same (flow_at P f)) c.in-Ok.same (c.in-Ok.ensures.answer ∙ ap row c.flow-of.ensures.value) in
-    let made : x ≡ made_row (flow_at P f) gs = c.in-Ok.ensures.after refl ∙ ap (λ (w : Flow). made_row w gs) c.flow-of.ensures.value in
+    let e = gives_ok (climb_in f (flow_at P f) gs) (same (flow_at P f)) c.in-Ok.same (c.in-Ok.ensures.answer ∙ ap row c.flow_of.ensures.value) in
+    let made : x ≡ made_row (flow_at P f) gs = c.in-Ok.ensures.after refl ∙ ap (λ (w : Flow). made_row w gs) c.flow_of.ensures.value in
     let i : f < length xs = omega arith in
     let before : c.loop-f.still ≡ still_by P gs t f = c.loop-f.invariant.3 in
     let test = λ (b : Bool). b && same (flow_at P f) in
@@ -87,8 +87,8 @@ loop-f-preserved c =
       λ p lt.
           rw (add-one f)
           (c.in-Ok.ensures.loads refl p lt
-          ∙ ap (λ (n : ℕ). n + added c.flow-of.result.now (made_row c.flow-of.result.now gs) p) (c.loop-f.invariant.4 p lt)
-          ∙ ap (λ (w : Flow). load_of P (made_by P gs) p f + added w (made_row w gs) p) c.flow-of.ensures.value
+          ∙ ap (λ (n : ℕ). n + added c.flow_of.result.now (made_row c.flow_of.result.now gs) p) (c.loop-f.invariant.4 p lt)
+          ∙ ap (λ (w : Flow). load_of P (made_by P gs) p f + added w (made_row w gs) p) c.flow_of.ensures.value
           ∙ ap (λ (r : Row). load_of P (made_by P gs) p f + added (flow_at P f) r p) used),
       λ p lt. omega (arith, c.in-Ok.ensures.most refl p lt, c.loop-f.invariant.5 p lt),
     )

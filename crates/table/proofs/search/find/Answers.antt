@@ -54,8 +54,8 @@ returns-then-still c =
     ∙ c.loop-done.invariant.0 in
     record { value = e; sought = sought c.args.plan.now c.args.allowed _ e }
 
-pub set-gaps-requires : goal.set-gaps-requires
-set-gaps-requires c =
+pub set_gaps-requires : goal.set_gaps-requires
+set_gaps-requires c =
     let P = c.args.plan.now.parts in
     record {
       few = c.in-Ok.ensures.most refl;
@@ -74,8 +74,8 @@ loop-done-preserved c =
       ap (λ (t : Table). least_from P.parts (n - (d + 1)) (d + 1) t) after
           ∙ turn_goes P.parts n d t c.loop-done-test.true m (round_made P.parts t gs c.in-Ok.still c.loop-done.invariant.1 c.in-Ok.ensures.answer) c.if-still.false
           ∙ c.loop-done.invariant.0,
-      c.set-gaps.ensures.value c.round.new.made (λ p lt. c.in-Ok.ensures.loads refl p lt ∙ ap (λ (t : Table). load P.parts t p) (sym after)),
-      c.set-gaps.ensures.few,
+      c.set_gaps.ensures.value c.round.new.made (λ p lt. c.in-Ok.ensures.loads refl p lt ∙ ap (λ (t : Table). load P.parts t p) (sym after)),
+      c.set_gaps.ensures.few,
       subst (Shaped P.parts) (sym after) (shaped_by P.parts (λ f. made (flow_at P.parts f) gs) P.few.1),
     )
 

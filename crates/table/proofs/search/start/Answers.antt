@@ -15,10 +15,10 @@ loop-f-preserved c =
     let P = c.args.plan.now.parts in
     let xs = c.loop-f.table.rows in
     let f = c.loop-f.f in
-    let x = c.start-row.result in
-    let i : f < length xs = omega (arith, c.flow-of.ensures.within) in (
+    let x = c.start_row.result in
+    let i : f < length xs = omega (arith, c.flow_of.ensures.within) in (
       length-set xs f x ∙ c.loop-f.invariant.0,
-      λ g lt. fill_more (λ g. start_row (flow_at P g)) (λ _. zero_row) xs f x no_row i (c.start-row.ensures ∙ ap start_row c.flow-of.ensures.value) (λ a l. c.loop-f.invariant.1 a (omega arith)) g (omega arith),
+      λ g lt. fill_more (λ g. start_row (flow_at P g)) (λ _. zero_row) xs f x no_row i (c.start_row.ensures ∙ ap start_row c.flow_of.ensures.value) (λ a l. c.loop-f.invariant.1 a (omega arith)) g (omega arith),
     )
 
 pub returns : goal.returns

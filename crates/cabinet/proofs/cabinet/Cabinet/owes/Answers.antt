@@ -12,10 +12,10 @@ returns-then-frame-slot g c =
     sym (c.loop-i.invariant ∙ has_due_more m.slot (port_in m c.args.port).line c.loop-i.i c.in-Some.frame c.in-Some.ensures
     ∙ (rw (le-leb c.in-Some.frame.due m.slot h)))
 
-pub returns-in-default : goal.returns-in-default
-returns-in-default g c =
+pub returns-in_default : goal.returns-in_default
+returns-in_default g c =
     let m = g.Self.Cabinet.model c.args.self.now in
-    sym (c.loop-i.invariant ∙ has_due_none m.slot (port_in m c.args.port).line c.loop-i.i c.in-default.ensures)
+    sym (c.loop-i.invariant ∙ has_due_none m.slot (port_in m c.args.port).line c.loop-i.i c.in_default.ensures)
 
 pub loop-i-preserved : goal.loop-i-preserved
 loop-i-preserved g c =

@@ -6,6 +6,6 @@ pub returns : goal.returns
 returns c =
     let P = c.args.self.now in
     record {
-      value = c.rates-through.ensures;
-      within = λ h. omega (arith, c.rates-through.ensures, (kept_of P.parts P.kept).rates c.args.port h);
+      value = c.rates_through.ensures;
+      within = λ h. omega (arith, c.rates_through.ensures, (kept_of P.parts P.kept).rates c.args.port h);
     }

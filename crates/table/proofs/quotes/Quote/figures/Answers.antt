@@ -10,5 +10,5 @@ returns c =
     record {
       delays = λ p lt. ap (λ (ds : List ℕ). get_or ds p 0) k.delays ∙ delays_at P t p lt;
       backlogs = c.backlogs-backlogs.ensures t k;
-      flows = c.flow-delays-flows.ensures t k;
+      flows = c.flow_delays-flows.ensures t k;
     }

@@ -17,11 +17,11 @@ loop-f-preserved c =
     let ds = c.args.ports.now.delays in
     let f = c.loop-f.f in
     let xs = c.loop-f.found in
-    let w = c.flow-of-flow.result.now in
-    let x = c.delay-along.result + (hops w - 1) in
-    let i : f < length xs = omega (arith, c.flow-of-flow.ensures.within) in
+    let w = c.flow_of-flow.result.now in
+    let x = c.delay_along.result + (hops w - 1) in
+    let i : f < length xs = omega (arith, c.flow_of-flow.ensures.within) in
     let all = λ (w : Flow). delay_along w ds (hops w) + (hops w - 1) in
-    let e : x ≡ all (flow_at P f) = ap (λ (n : ℕ). n + (hops w - 1)) c.delay-along.ensures.value ∙ ap all c.flow-of-flow.ensures.value in (
+    let e : x ≡ all (flow_at P f) = ap (λ (n : ℕ). n + (hops w - 1)) c.delay_along.ensures.value ∙ ap all c.flow_of-flow.ensures.value in (
       length-set xs f x ∙ c.loop-f.invariant.0,
       λ k lt. fill_more (λ j. all (flow_at P j)) (λ _. 0) xs f x 0 i e (λ j h. c.loop-f.invariant.1 j (omega arith)) k (omega arith),
     )
