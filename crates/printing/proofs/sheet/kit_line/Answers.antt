@@ -8,7 +8,7 @@ pub triple-requires : goal.triple-requires
 triple-requires c =
     let P = c.args.quote.now.plan in (
       c.requires.0,
-      omega (arith, c.requires.1, narrow P.parts.size.ports (omega (arith, P.few.0)), narrow P.parts.size.flows (omega (arith, P.few.1)), wide c.from.result c.from.type-inv),
+      omega (arith, c.requires.1, narrow P.parts.size.ports (omega (arith, P.few.0)), narrow P.parts.size.flows (omega (arith, P.few.1)), wide c.from.result c.from.type_inv),
     )
 
 pub returns : goal.returns
@@ -23,5 +23,5 @@ returns c =
       owner = c.triple.ensures.owner;
       after = subst S c.from.ensures c.triple.ensures.after;
       short =
-          omega (arith, c.triple.ensures.after.count, length_triple (codes "KIT") np nf c.from.result, narrow np (omega (arith, P.few.0)), narrow nf (omega (arith, P.few.1)), wide c.from.result c.from.type-inv);
+          omega (arith, c.triple.ensures.after.count, length_triple (codes "KIT") np nf c.from.result, narrow np (omega (arith, P.few.0)), narrow nf (omega (arith, P.few.1)), wide c.from.result c.from.type_inv);
     }
