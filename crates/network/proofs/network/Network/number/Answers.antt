@@ -7,8 +7,8 @@ use Rattle.model.specs.Networks.{gated}
 use Rattle.network.proofs.Numbers.{firsts_few, number_few, number_is}
 use Rattle.network.proofs.network.Network.number.Goals as goal
 
-pub overflow-add-result : goal.overflow-add-result
-overflow-add-result g c =
+pub overflow_add-result : goal.overflow_add-result
+overflow_add-result g c =
     let w = c.args.self.now in
     let few = firsts_few w.plan.parts (kept_of w.plan.parts w.plan.kept) c.args.flow c.if-flow-self.false in
     record { fits = omega (arith, few, w.numbered c.args.flow c.if-flow-self.false, c.before-then-has.ensures.few) }

@@ -26,4 +26,4 @@ returns-in-Err g c =
     c.min-level.result
     (frame c.slot.result) (ap frame c.slot.ensures) c.put.ensures.after c.if-flow-self.false c.if-len-w.false c.if-len-w-2.false
     c.min-level.ensures c.if-level-len.false w.open c.if-not-self.false c.in-Err.fault c.in-Err.ensures.answer in
-    record { answer = ap (λ (e : NetworkFault). Err e) c.turned-away.ensures ∙ t.0; after = t.1 }
+    record { answer = ap (λ (e : NetworkFault). Err e) c.turned_away.ensures ∙ t.0; after = t.1 }

@@ -6,21 +6,21 @@ use Rattle.ports.proofs.TableSteps.{Kept, add_kept, add_left, add_room}
 use Rattle.ports.proofs.table.Table.add.Goals as goal
 
 pub bounds-self-self : goal.bounds-self-self
-bounds-self-self c = add_room c.args.self.now c.args.figures c.args.own_val (sym c.if-not-may-add.ensures)
+bounds-self-self c = add_room c.args.self.now c.args.figures c.args.own (sym c.if-not-may_add.ensures)
 
-pub invariant-of-self : goal.invariant-of-self
-invariant-of-self c =
+pub invariant_of-self : goal.invariant_of-self
+invariant_of-self c =
     let t = c.args.self.now in
-    let room = add_room t c.args.figures c.args.own_val (sym c.if-not-may-add.ensures) in
-    let k = subst (λ (v : Row). Kept (t.count + 1) (set t.rows t.count v)) (sym c.new.ensures) (add_kept t c.args.figures c.args.own_val (sym c.if-not-may-add.ensures)) in
-    (length-set t.rows t.count c.new.result ∙ t.sized, (omega arith, (t.soon, (k.0, (k.1, (k.2, tt))))))
+    let room = add_room t c.args.figures c.args.own (sym c.if-not-may_add.ensures) in
+    let k = subst (λ (v : Row). Kept (t.count + 1) (set t.rows t.count v)) (sym c.new.ensures) (add_kept t c.args.figures c.args.own (sym c.if-not-may_add.ensures)) in
+    record { sized = length-set t.rows t.count c.new.result ∙ t.sized; few = omega arith; soon = t.soon; figures = k.0; filled = k.1; rises = k.2 }
 
 pub returns : goal.returns
 returns c =
     let t = c.args.self.now in
-    let e = sym c.if-not-may-add.ensures in
+    let e = sym c.if-not-may_add.ensures in
     record {
       answer = rw e;
       after = ap (λ (v : Row). record { slot = t.slot; ports = map row_port (take (t.count + 1) (set t.rows t.count v)) }) c.new.ensures
-          ∙ add_left t c.args.figures c.args.own_val e;
+          ∙ add_left t c.args.figures c.args.own e;
     }

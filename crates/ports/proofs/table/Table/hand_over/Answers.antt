@@ -11,11 +11,11 @@ returns-then-port-self c =
       after = refl;
     }
 
-pub invariant-of-self : goal.invariant-of-self
-invariant-of-self c =
+pub invariant_of-self : goal.invariant_of-self
+invariant_of-self c =
     let t = c.args.self.now in
     let k = kept_set t c.args.port c.take.new.self c.if-port-self.false c.take.ensures.sound in
-    (length-set t.rows c.args.port c.take.new.self ∙ t.sized, (t.few, (t.soon, (k.0, (k.1, (k.2, tt))))))
+    record { sized = length-set t.rows c.args.port c.take.new.self ∙ t.sized; few = t.few; soon = t.soon; figures = k.0; filled = k.1; rises = k.2 }
 
 pub returns : goal.returns
 returns c =

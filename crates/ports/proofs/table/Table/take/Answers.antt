@@ -7,11 +7,11 @@ use Rattle.ports.proofs.table.Table.take.Goals as goal
 pub returns-then-ready : goal.returns-then-ready
 returns-then-ready c =
     let m = table_model c.args.self.now in
-    let e : c.hand-over.result ≡ hand_answer c.args.ready m c.args.port = rw c.if-ready.true c.hand-over.ensures.answer in
+    let e : c.hand_over.result ≡ hand_answer c.args.ready m c.args.port = rw c.if-ready.true c.hand_over.ensures.answer in
     record {
       answer = e;
-      after = c.hand-over.ensures.after;
-      kept = timely_taken m (table_model c.hand-over.new.self) c.args.port c.args.ready c.hand-over.result e c.hand-over.ensures.after;
+      after = c.hand_over.ensures.after;
+      kept = timely_taken m (table_model c.hand_over.new.self) c.args.port c.args.ready c.hand_over.result e c.hand_over.ensures.after;
     }
 
 pub returns-else-ready : goal.returns-else-ready

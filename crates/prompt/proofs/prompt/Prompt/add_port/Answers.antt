@@ -9,45 +9,46 @@ use Rattle.prompt.proofs.WireSteps.{all_added}
 use Rattle.prompt.proofs.prompt.Prompt.add_port.Goals as goal
 
 -- the port was added, so its wire is within its limits and there was room
-ok : (c : goal.In-Ok) → may_add (table_model c.args.self.now.table) c.args.figures c.wire-fits.result ≡ true
-ok c = added (table_model c.args.self.now.table) c.args.figures c.wire-fits.result c.in-Ok.field-0 c.in-Ok.ensures.answer
+ok : (c : goal.In-Ok) → may_add (table_model c.args.self.now.table) c.args.figures c.wire_fits.result ≡ true
+ok c = added (table_model c.args.self.now.table) c.args.figures c.wire_fits.result c.in-Ok.field-0 c.in-Ok.ensures.answer
 
 room : (c : goal.In-Ok) → length (table_model c.args.self.now.table).ports < 8
-room c = (added_parts (table_model c.args.self.now.table) c.args.figures c.wire-fits.result (ok c)).2
+room c = (added_parts (table_model c.args.self.now.table) c.args.figures c.wire_fits.result (ok c)).2
 
-pub offset-bounds-self-at : goal.offset-bounds-self-at
-offset-bounds-self-at c = let r = room c in omega (arith, c.ports-at.ensures)
+pub offset_bounds-self-at : goal.offset_bounds-self-at
+offset_bounds-self-at c = let r = room c in omega (arith, c.ports-at.ensures)
 
 pub bounds-self-at : goal.bounds-self-at
 bounds-self-at c = omega (arith, room c, c.ports-at.ensures)
 
-pub invariant-of-self : goal.invariant-of-self
-invariant-of-self c =
+pub invariant_of-self : goal.invariant_of-self
+invariant_of-self c =
     let s = c.args.self.now in
     let m = table_model s.table in
     let w : Wire = record { speed = c.args.speed; latency = c.args.latency; sent = 0 } in
-    let fits = sym c.wire-fits.ensures ∙ (added_parts m c.args.figures c.wire-fits.result (ok c)).0 in
+    let fits = sym c.wire_fits.ensures ∙ (added_parts m c.args.figures c.wire_fits.result (ok c)).0 in
     let all = all_added s.wires m c.args.figures w (omega (arith, room c, s.sized)) refl fits s.kept in
-    let after = c.in-Ok.ensures.after ∙ added_model m c.args.figures c.wire-fits.result (ok c) in (
-      length-set s.wires c.ports-at.result w ∙ s.sized,
-      (subst (λ (k : ℕ). AllKept (set s.wires k w) (table_model c.add.new.self)) (sym c.ports-at.ensures) (subst (AllKept (set s.wires (length m.ports) w)) (sym after) all), tt),
-    )
+    let after = c.in-Ok.ensures.after ∙ added_model m c.args.figures c.wire_fits.result (ok c) in
+    record {
+      sized = length-set s.wires c.ports-at.result w ∙ s.sized;
+      kept = subst (λ (k : ℕ). AllKept (set s.wires k w) (table_model c.add.new.self)) (sym c.ports-at.ensures) (subst (AllKept (set s.wires (length m.ports) w)) (sym after) all);
+    }
 
-pub invariant-of-self-in-Err· : goal.invariant-of-self-in-Err·
-invariant-of-self-in-Err· c =
+pub invariant_of-self-in-Err-1 : goal.invariant_of-self-in-Err-1
+invariant_of-self-in-Err-1 c =
     let s = c.args.self.now in
     let m = table_model s.table in
-    let no = not_added m c.args.figures c.wire-fits.result c.in-Err.fault c.in-Err.ensures.answer in
-    let after = c.in-Err.ensures.after ∙ not_added_model m c.args.figures c.wire-fits.result no in
-    (s.sized, (subst (AllKept s.wires) (sym after) s.kept, tt))
+    let no = not_added m c.args.figures c.wire_fits.result c.in-Err.fault c.in-Err.ensures.answer in
+    let after = c.in-Err.ensures.after ∙ not_added_model m c.args.figures c.wire_fits.result no in
+    record { sized = s.sized; kept = subst (AllKept s.wires) (sym after) s.kept }
 
 pub returns-in-Ok : goal.returns-in-Ok
 returns-in-Ok c =
     let s = c.args.self.now in
     let m = table_model s.table in
-    let e = c.wire-fits.ensures in
+    let e = c.wire_fits.ensures in
     let may : may_add m c.args.figures (wire_fits c.args.figures c.args.speed c.args.latency) ≡ true =
-    subst (λ (b : Bool). may_add m c.args.figures b ≡ true) e (added m c.args.figures c.wire-fits.result c.in-Ok.field-0 c.in-Ok.ensures.answer) in
+    subst (λ (b : Bool). may_add m c.args.figures b ≡ true) e (added m c.args.figures c.wire_fits.result c.in-Ok.field-0 c.in-Ok.ensures.answer) in
     record {
       answer = c.in-Ok.ensures.answer ∙ ap (add_answer m c.args.figures) e;
       after = c.in-Ok.ensures.after ∙ ap (add_after m c.args.figures) e;
@@ -58,9 +59,9 @@ pub returns-in-Err : goal.returns-in-Err
 returns-in-Err c =
     let s = c.args.self.now in
     let m = table_model s.table in
-    let e = c.wire-fits.ensures in
+    let e = c.wire_fits.ensures in
     record {
       answer = c.in-Err.ensures.answer ∙ ap (add_answer m c.args.figures) e;
       after = c.in-Err.ensures.after ∙ ap (add_after m c.args.figures) e;
-      wires = rw (← e, not_added m c.args.figures c.wire-fits.result c.in-Err.fault c.in-Err.ensures.answer);
+      wires = rw (← e, not_added m c.args.figures c.wire_fits.result c.in-Err.fault c.in-Err.ensures.answer);
     }

@@ -18,9 +18,9 @@ returns c =
       after = ap (λ l. record {
         level = l - (get_or w.frames 0 no_frame).len;
         line =
-            (held (record { level = 0; frames = c.rotate-left.new.self; waiting = n - 1 })).line;
+            (held (record { level = 0; frames = c.rotate_left.new.self; waiting = n - 1 })).line;
       }) c.min-level.ensures
           ∙ ap (λ (l : List Frame). record { level = min w.level c.args.burst - (get_or w.frames 0 no_frame).len; line = l })
-          (rest_line w.waiting n w.frames c.rotate-left.new.self c.len-n.ensures.capped c.if-n-eq0.false long
-          c.rotate-left.ensures.after) ∙ sym out.1;
+          (rest_line w.waiting n w.frames c.rotate_left.new.self c.len-n.ensures.capped c.if-n-eq0.false long
+          c.rotate_left.ensures.after) ∙ sym out.1;
     }

@@ -6,10 +6,10 @@ use Rattle.prompt.specs.Wires.{AllKept, own_finish, wire_at}
 use Rattle.prompt.proofs.WireSteps.{all_put_after, own_put_after}
 use Rattle.prompt.proofs.prompt.service.PromptCabinet.put.Goals as goal
 
-pub invariant-of-self : goal.invariant-of-self
-invariant-of-self c =
+pub invariant_of-self : goal.invariant_of-self
+invariant_of-self c =
     let s = c.args.self.now in
-    (s.sized, (subst (AllKept s.wires) (sym c.put.ensures.after) (all_put_after s.wires (prompt_model s) c.args.port c.args.frame (table_well s.table) s.kept), tt))
+    record { sized = s.sized; kept = subst (AllKept s.wires) (sym c.put.ensures.after) (all_put_after s.wires (prompt_model s) c.args.port c.args.frame (table_well s.table) s.kept) }
 
 pub returns : goal.returns
 returns c =
