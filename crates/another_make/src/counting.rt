@@ -2,7 +2,7 @@
 use ports::Table;
 
 pub mod making;
-pub mod service;
+pub mod serving;
 
 // At every third question it hands over a frame that has stayed long enough, at any other one that is due.
 #[derive(Clone, Copy)]

@@ -1,6 +1,6 @@
 // A cabinet around any other, known by the interface alone.
 
-pub mod service;
+pub mod serving;
 
 // It asks the cabinet inside at every third question only, or when a frame is due.
 #[derive(Drop)]

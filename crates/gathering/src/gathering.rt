@@ -6,7 +6,7 @@ use ports::Table;
 use ports::limits::MOST_TABLE;
 
 pub mod making;
-pub mod service;
+pub mod serving;
 
 // A cabinet that, in the slots divisible by a port's period, hands over all frames that have stayed long enough, and
 // others when they are due.

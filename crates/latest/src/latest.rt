@@ -2,7 +2,7 @@
 use ports::Table;
 
 pub mod making;
-pub mod service;
+pub mod serving;
 
 // A cabinet that hands over each frame in its due slot, as late as the service allows.
 #[derive(Clone, Copy)]

@@ -8,7 +8,7 @@ use ports::Table;
 use ports::limits::MOST_TABLE;
 
 pub mod making;
-pub mod service;
+pub mod serving;
 
 // A cabinet that hands over each frame once its line, faster than the service asks, has sent it.
 #[derive(Clone, Copy)]

@@ -4,7 +4,7 @@ use Rattle.ports.proofs.TableSteps.{table_well}
 use Rattle.prompt.specs.Prompts.{prompt_model}
 use Rattle.prompt.specs.Wires.{AllKept, own_finish, wire_at}
 use Rattle.prompt.proofs.WireSteps.{all_put_after, own_put_after}
-use Rattle.prompt.proofs.prompt.service.PromptCabinet.put.Goals as goal
+use Rattle.prompt.proofs.prompt.serving.PromptCabinet.put.Goals as goal
 
 pub invariant_of-self : goal.invariant_of-self
 invariant_of-self c =

@@ -6,7 +6,7 @@ use Rattle.prompt.specs.Prompts.{prompt_model}
 use Rattle.prompt.specs.Wires.{AllKept, sent_on, wire_at}
 use Rattle.prompt.specs.declared.wire.Wire.{Wire}
 use Rattle.prompt.proofs.WireSteps.{all_sent, first_place, first_port, first_small}
-use Rattle.prompt.proofs.prompt.service.PromptCabinet.take.Goals as goal
+use Rattle.prompt.proofs.prompt.serving.PromptCabinet.take.Goals as goal
 
 -- the frame was the first of the line
 leads : (c : goal.In-Some) → (port_in (prompt_model c.args.self.now) c.args.port).line ≡ c.in-Some.frame ∷ drop 1 (port_in (prompt_model c.args.self.now) c.args.port).line
