@@ -38,13 +38,13 @@ impl Mask {
     }
 
     // How many regulators it puts before the hops below this one.
-    pub fn before(&self, hop: usize) -> u32
-        ensures value { result ≡ bits_below self.now.bits (min hop 8) }
+    pub fn before(&self, end: usize) -> u32
+        ensures value { result ≡ bits_below self.now.bits (min end 8) }
         ensures few { result ≤ 8 }
     {
         let mut n = 0;
-        for k in 0..hop.min(MOST_HOPS) {
-            n += u32::from(bit_of(self.bits, k));
+        for hop in 0..end.min(MOST_HOPS) {
+            n += u32::from(bit_of(self.bits, hop));
         }
         n
     }
