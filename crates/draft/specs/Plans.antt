@@ -1,11 +1,8 @@
 -- Ports, flows and rows by their numbers; what does not exist is all 0.
-use Rattle.std.specs.Prelude.{ℕ, List, [], replicate, slice_index, slice_index_or}
+use Rattle.std.specs.Prelude.{ℕ, [], replicate, slice_index, slice_index_or}
 use Rattle.draft.specs.declared.draft.Draft.{Draft}
 use Rattle.draft.specs.declared.flow.Flow.{Flow}
-use Rattle.draft.specs.declared.mask.Mask.{Mask}
 use Rattle.draft.specs.declared.parts.Parts.{Parts}
-use Rattle.draft.specs.declared.parts.Size.{Size}
-use Rattle.draft.specs.declared.path.Path.{Path}
 use Rattle.draft.specs.declared.port.Port.{Port}
 use Rattle.draft.specs.declared.table.Proposal.{Proposal}
 use Rattle.draft.specs.declared.table.Row.{Row}

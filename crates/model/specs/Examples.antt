@@ -1,17 +1,16 @@
 -- A two-port ring with a regulator, at work: its frames leave every port as late as they may.
-use Rattle.std.specs.Prelude.{◌≡◌, ℕ, zero, suc, ◌+◌, Bool, true, cond, leb, List, [], ◌∷◌, ◌++◌, length, replicate}
+use Rattle.std.specs.Prelude.{◌≡◌, ℕ, zero, suc, true, cond, List, [], ◌∷◌, ◌++◌, length, replicate}
 use Rattle.draft.specs.declared.parts.Parts.{Parts}
 use Rattle.draft.specs.declared.table.Table.{Table}
 use Rattle.service.specs.declared.frame.Frame.{Frame}
 use Rattle.plan.specs.Checks.{faultless}
 use Rattle.table.specs.Checks.{accepts}
-use Rattle.table.specs.Kits.{flow, kit, least_of, pair, port}
+use Rattle.table.specs.Kits.{flow, kit, pair, port}
 use Rattle.table.specs.Loads.{delay}
 use Rattle.table.specs.Paths.{flow_delay}
-use Rattle.table.specs.Quotes.{flat}
 use Rattle.table.specs.Rounds.{zero_row}
 use Rattle.model.specs.Networks.{Ending, State, fresh, offered, offers, owed, slot_end, spare, tray}
-use Rattle.model.specs.Runs.{Event, Run, Sent, accepted, delivered, ended, inside, refused, sent}
+use Rattle.model.specs.Runs.{Event, Run, accepted, delivered, ended, inside, refused, sent}
 
 -- a network at work: the calls so far and the state
 pub record Show : Type 0 where

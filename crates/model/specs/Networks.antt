@@ -1,5 +1,5 @@
 -- The network of a plan: what its state is, and what an offer and a slot end make of it.
-use Rattle.std.specs.Prelude.{◌≡◌, ℕ, zero, suc, ◌+◌, ◌-◌, ◌<◌, ◌≤◌, min, Bool, true, false, cond, ◌&&◌, List, [], ◌∷◌, ◌++◌, length, ◌==◌, nat_le, nat_lt}
+use Rattle.std.specs.Prelude.{◌≡◌, ℕ, zero, suc, ◌+◌, ◌-◌, ◌<◌, ◌≤◌, min, Bool, cond, ◌&&◌, List, [], ◌∷◌, ◌++◌, length, ◌==◌, nat_le, nat_lt}
 use Rattle.std.specs.List.{AllByRecursion as All}
 use Rattle.draft.specs.Masks.{regulated}
 use Rattle.draft.specs.Plans.{flow_at, hop_port, hops, port_at}

@@ -1,5 +1,5 @@
 -- Runs of a network: what was called, and what of each flow was accepted, was delivered and is inside.
-use Rattle.std.specs.Prelude.{◌≡◌, ℕ, zero, suc, ◌-◌, ◌<◌, Bool, true, false, cond, ◌&&◌, List, [], ◌∷◌, ◌++◌, map, filter, ◌==◌, nat_eq}
+use Rattle.std.specs.Prelude.{◌≡◌, ℕ, zero, suc, ◌-◌, ◌<◌, true, false, cond, ◌&&◌, List, [], ◌∷◌, ◌++◌, map, filter, ◌==◌, nat_eq}
 use Rattle.draft.specs.declared.parts.Parts.{Parts}
 use Rattle.service.specs.declared.frame.Frame.{Frame}
 use Rattle.model.specs.Networks.{Handed, State, fresh, hops_of, offered, offers, route, slot_end, tray}

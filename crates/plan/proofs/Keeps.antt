@@ -1,12 +1,12 @@
 -- No fault is found exactly where every limit is kept.
-use Rattle.std.proofs.Common.{◌≡◌, ℕ, zero, suc, ◌+◌, ◌/◌, ◌^◌, ◌<◌, ◌≤◌, Bool, true, false, cond, not, ◌&&◌, ◌||◌, eqb, ltb, leb, ◌⊎◌, get_or, is_ok, Ok, Err, Result, sym, refl, ap, ◌∙◌, subst, inl, inr, ⊎_elim, mod-lt, arith, lit<, MatchResult}
+use Rattle.std.proofs.Common.{◌≡◌, ℕ, zero, suc, ◌+◌, ◌/◌, ◌^◌, ◌<◌, ◌≤◌, Bool, true, false, not, ◌&&◌, ◌||◌, eqb, ltb, leb, ◌⊎◌, is_ok, Ok, Err, Result, sym, refl, ap, ◌∙◌, inl, inr, ⊎_elim, mod-lt, arith, lit<, MatchResult}
 use native.Mathlib.Decide.{dec_le, ℕ_discrete}
 use Rattle.std.proofs.lemmas.Bool.{and_from, and_left, and_parts, and_right, both_ways, cases_Bool, cases_lt, lt-leb, not_from_true, or_cases, or_left, or_right, eqb-true, eqb-false, le-leb, leb-true, lt-ltb, le-ltb, ltb-true, cond-true, cond-false, not-true, ne_eqb, eq-eqb, not_from_false}
 use Rattle.std.proofs.lemmas.Bool.Decides.{nat_tests}
 use Rattle.rounding.specs.Quotients.{up}
 use Rattle.refusal.specs.Firsts.{all_below, and_then, first_refusal}
 use Rattle.refusal.proofs.Orders.{all_below_each, all_below_from, first_refusal_each, first_refusal_from, then_ok}
-use Rattle.draft.specs.Masks.{bit, regulated, regulators}
+use Rattle.draft.specs.Masks.{bit, regulated}
 use Rattle.draft.specs.Plans.{flow_at, hop_port, hops, port_at}
 use Rattle.draft.specs.declared.flow.Flow.{Flow}
 use Rattle.draft.specs.declared.parts.Parts.{Parts}

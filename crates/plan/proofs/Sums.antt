@@ -1,10 +1,10 @@
 -- Sums kept at the places of a list, and what a flow adds to them.
 use Rattle.std.proofs.Common.{◌≡◌, ℕ, zero, suc, ◌+◌, ◌<◌, ◌≤◌, Bool, true, false, cond, not, ◌&&◌, eqb, ltb, List, length, get_or, set, replicate, sym, refl, ap, ◌∙◌, add-zero, arith, get_or-set_other, get_or-set_same}
 use native.Mathlib.Decide.{ℕ_discrete}
-use Rattle.std.proofs.lemmas.Bool.{and_left, and_parts, both_ways, cond-false, cond-true, eq-eqb, eqb-false, eqb-true, lt-ltb, ltb-true, ne_eqb, not-false, not_from_true, not-true}
+use Rattle.std.proofs.lemmas.Bool.{and_parts, both_ways, eq-eqb, eqb-true, lt-ltb, ltb-true, ne_eqb, not-false, not-true}
 use Rattle.refusal.proofs.Orders.{all_below_each, all_below_some}
 use Rattle.refusal.specs.Firsts.{all_below}
-use Rattle.draft.specs.Plans.{flow_at, hop_port, hops}
+use Rattle.draft.specs.Plans.{hop_port, hops}
 use Rattle.draft.specs.declared.flow.Flow.{Flow}
 use Rattle.draft.specs.declared.parts.Parts.{Parts}
 use Rattle.plan.specs.Limits.{Kept, crosses}

@@ -1,8 +1,8 @@
 -- The first fault of a plan: ports before flows, the lowest first and there the lowest number; then the sums of rates.
-use Rattle.std.specs.Prelude.{ℕ, suc, ◌+◌, Bool, true, cond, not, ◌&&◌, ◌||◌, is_ok, Ok, Err, Result, ◌==◌, nat_le, nat_lt}
+use Rattle.std.specs.Prelude.{ℕ, suc, ◌+◌, Bool, cond, not, ◌&&◌, ◌||◌, is_ok, Ok, Err, Result, ◌==◌, nat_le, nat_lt}
 use Rattle.rounding.specs.Quotients.{up}
 use Rattle.refusal.specs.Firsts.{all_below, and_then, first_refusal}
-use Rattle.draft.specs.Masks.{regulated, regulators}
+use Rattle.draft.specs.Masks.{regulated}
 use Rattle.draft.specs.Plans.{flow_at, hop_port, hops, port_at}
 use Rattle.draft.specs.declared.flow.Flow.{Flow}
 use Rattle.draft.specs.declared.parts.Parts.{Parts}

@@ -1,10 +1,10 @@
 -- The laws of quotients rounded up.
-use mathlib.Core.Path.{◌≡◌, refl, sym, ap, ◌∙◌}
+use mathlib.Core.Path.{◌≡◌, sym}
 use Prim.Native.Nat.{ℕ, min, ◌+◌, ◌-◌, ◌*◌, ◌/◌, ◌%◌, ◌<◌, ◌≤◌}
 use native.Mathlib.Nat.{div-add-mod', div-zero, lt-div-mul-add, div-mul-le_self, div-eq_of_lt-le, lt_of_mul-lt-mul_right, mod-lt, add-mul}
 use native.Mathlib.Decide.{ℕ_discrete}
 use native.Mathlib.Omega.{arith}
-use Rattle.rounding.specs.Quotients.{up, LeastCover}
+use Rattle.rounding.specs.Quotients.{up}
 
 -- it is the one q that covers a and that, less one, does not
 pub up_is : (a b q : ℕ) → 0 < b → a ≤ q * b → q * b < a + b → up a b ≡ q

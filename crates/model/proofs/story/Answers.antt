@@ -5,7 +5,7 @@ use Rattle.plan.specs.Limits.{Kept}
 use Rattle.table.proofs.Exact.{accepted_from}
 use Rattle.table.specs.Accepts.{Accepted}
 use Rattle.table.specs.Loads.{delays, gaps}
-use Rattle.model.specs.Examples.{Show, endings, offering, ring, story, table}
+use Rattle.model.specs.Examples.{ring, story, table}
 use Rattle.model.specs.Runs.{begun}
 use Rattle.model.proofs.Examples.{Shown, endings_run, offering_run}
 use Rattle.model.proofs.story.Goals as goal

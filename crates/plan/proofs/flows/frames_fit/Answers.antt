@@ -1,6 +1,6 @@
 use Rattle.std.proofs.Common.{sym}
 use Rattle.draft.specs.Plans.{hops}
-use Rattle.refusal.proofs.Orders.{all_below_done, all_below_more, all_below_stop}
+use Rattle.refusal.proofs.Orders.{all_below_more, all_below_stop}
 use Rattle.plan.specs.Checks.{frame_fits}
 use Rattle.plan.proofs.flows.frames_fit.Goals as goal
 

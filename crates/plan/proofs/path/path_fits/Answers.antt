@@ -1,4 +1,4 @@
-use Rattle.std.proofs.Common.{ℕ, ◌≤◌, ◌&&◌, leb, sym, ap, ◌∙◌, arith}
+use Rattle.std.proofs.Common.{◌≤◌, ◌&&◌, leb, sym, arith}
 use Rattle.draft.specs.Plans.{hops}
 use Rattle.refusal.proofs.Orders.{all_below_done, all_below_more, all_below_stop}
 use Rattle.std.proofs.lemmas.Bool.{and_from, and_right, le-leb}

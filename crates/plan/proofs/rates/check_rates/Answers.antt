@@ -1,4 +1,4 @@
-use Rattle.std.proofs.Common.{◌≡◌, ◌<◌, ◌≤◌, leb, sym, arith}
+use Rattle.std.proofs.Common.{◌<◌, ◌≤◌, leb, sym, arith}
 use Rattle.draft.specs.Plans.{port_at}
 use Rattle.refusal.proofs.Orders.{first_refusal_more, first_refusal_stop}
 use Rattle.std.proofs.lemmas.Bool.{cond-false, le-leb, lt-leb}

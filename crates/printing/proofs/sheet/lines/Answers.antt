@@ -1,4 +1,4 @@
-use Rattle.std.proofs.Common.{◌≡◌, ℕ, suc, ◌+◌, [], ◌++◌, sym, refl, ◌∙◌, subst, add-one, arith}
+use Rattle.std.proofs.Common.{◌≡◌, ℕ, ◌++◌, sym, refl, ◌∙◌, subst, add-one, arith}
 use Rattle.printing.specs.Prints.{Printed}
 use Rattle.printing.specs.Sheets.{flow_line, kit_line, lines_of, port_line}
 use Rattle.printing.proofs.Pastes.{printed_none, printed_then}

@@ -1,4 +1,4 @@
-use Rattle.std.proofs.Common.{◌≡◌, ℕ, [], ◌∷◌, codes, sym, ◌∙◌, subst, arith}
+use Rattle.std.proofs.Common.{ℕ, [], ◌∷◌, codes, subst, arith}
 use Rattle.table.specs.Loads.{delay}
 use Rattle.printing.specs.Lines.{line}
 use Rattle.printing.specs.Prints.{Printed}

@@ -1,4 +1,4 @@
-use Rattle.std.proofs.Common.{[], ◌∷◌, decimal, ◌∙◌, arith}
+use Rattle.std.proofs.Common.{[], ◌∷◌, decimal, ◌∙◌}
 use Rattle.printing.proofs.Pastes.{printed_then}
 use Rattle.printing.proofs.text.field.Goals as goal
 
