@@ -3,8 +3,7 @@
 set -eu
 cd "$(dirname "$0")/.."
 mkdir -p target
-rt staticlib foreign > target/foreign.out 2>&1 || { cat target/foreign.out; exit 1; }
-kit="$(dirname "$(dirname "$(readlink -f "$(command -v rt)")")")"
+(cd crates/foreign && rt lib) > target/foreign.out 2>&1 || { cat target/foreign.out; exit 1; }
 rustc --edition 2021 -C opt-level=3 -C panic=abort -o target/benchmarks benchmarks/main.rs \
-    -L target/staticlib -L "$kit/lib" -l static=foreign -l static=rattle_c
+    -L crates/foreign/out -l static=foreign
 exec target/benchmarks "$@"

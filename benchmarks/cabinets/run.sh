@@ -4,9 +4,10 @@ set -eu
 cd "$(dirname "$0")/../.."
 slots=${1:-2000000}
 mkdir -p target
-rt check load > target/load.out 2>&1 || { cat target/load.out; exit 1; }
+(cd crates/load && rt run) > target/load.out 2>&1 || { cat target/load.out; exit 1; }
+load=crates/load/out/load
 rustc --edition 2021 -C opt-level=3 -C panic=abort -o target/cabinets benchmarks/cabinets/main.rs
-cmp <(target/bin/load "$slots" latest gathering prompt) <(target/cabinets "$slots" latest gathering prompt)
+cmp <("$load" "$slots" latest gathering prompt) <(target/cabinets "$slots" latest gathering prompt)
 echo "both print the same for $slots slots"
 
 # Median processor time, in seconds, of nine runs of each; the two take turns.
@@ -17,7 +18,7 @@ for kind in latest gathering prompt; do
     : > target/proved.times
     : > target/independent.times
     for _ in 1 2 3 4 5 6 7 8 9; do
-        { time target/bin/load "$slots" "$kind" > /dev/null; } 2>> target/proved.times
+        { time "$load" "$slots" "$kind" > /dev/null; } 2>> target/proved.times
         { time target/cabinets "$slots" "$kind" > /dev/null; } 2>> target/independent.times
     done
     proved=$(sort -n target/proved.times | sed -n 5p)

@@ -1,6 +1,6 @@
 -- Drained: what came out of a port until its cabinet said none, and where it was laid.
 use Rattle.std.specs.Prelude.{◌≡◌, ℕ, ◌+◌, ◌<◌, ◌≤◌, false, List, [], ◌∷◌, ◌++◌, length, take, drop, Some, None, Option, slice_set}
-use Rattle.std.specs.List.{AllByRecursion as All}
+use Rattle.std.specs.List.{AllByRecursion}
 use Rattle.line.specs.Queues.{Same, contents, memory, room}
 use Rattle.line.specs.Ring.{placed}
 use Rattle.line.specs.declared.queue.Queue.{Queue}
@@ -12,7 +12,7 @@ use Rattle.cabinet.specs.Takes.{Stayed}
 -- the first n frames of the port were handed over, each after its least stay, and nothing else changed
 pub record Fetched (m : Model) (p n : ℕ) (x : Model) : Type 0 where
   pub within : n ≤ length (port_in m p).line
-  pub stayed : All (Stayed m.slot (port_in m p)) (take n (port_in m p).line)
+  pub stayed : AllByRecursion (Stayed m.slot (port_in m p)) (take n (port_in m p).line)
   pub after : x ≡ with_port m p (cut n (port_in m p))
 
 -- and no frame that is left is due

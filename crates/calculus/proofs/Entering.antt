@@ -3,7 +3,7 @@ use Rattle.std.proofs.Common.{◌≡◌, ℕ, zero, suc, ◌+◌, ◌-◌, ◌*�
 use native.Mathlib.Decide.{ℕ_discrete}
 use Rattle.std.proofs.ByRecursion.{All-weaker}
 use Rattle.std.proofs.lemmas.List.{get_or_push, get_or-set_other, get_or-set_same, length_push, length-set}
-use Rattle.std.specs.List.{AllByRecursion as All}
+use Rattle.std.specs.List.{AllByRecursion}
 use Rattle.rounding.proofs.Ceilings.{up_covers}
 use Rattle.rounding.specs.Quotients.{up}
 use Rattle.calculus.proofs.Buckets.{bucket_passes, bucket_same}
@@ -80,8 +80,8 @@ pub record Base (S : System) (now : ℕ) (ports : List Port) (loose : List Trace
   pub size : length ports ≡ S.count
   pub ways : Everywhere (λ y. Ways S y.flow y.past) ports loose
   pub seen : Everywhere (λ y. Seen now y.past) ports loose
-  pub lines : (p : ℕ) → All (Lined S now p) (line_at ports p)
-  pub held : All (Loose S now) loose
+  pub lines : (p : ℕ) → AllByRecursion (Lined S now p) (line_at ports p)
+  pub held : AllByRecursion (Loose S now) loose
   pub buckets : (f k : ℕ) → S.regulated f k ≡ true
       → Bucket (S.cap f) (S.pace f) now (level f k) (λ u v. sum_of ports loose (crossing (leg f k) u v) + crossing (leg f k) u v x)
   pub busy : (p : ℕ) → p < S.count → Busy (S.rate p) (get_or ports p idle).finish now
@@ -234,7 +234,7 @@ module _ (S : System) (sound : Sound S) (now : ℕ) (ports : List Port) (loose :
 
   pub entering : ((g : ℕ → ℕ → ℕ → ℕ) → sum_of ports loose (λ y. g y.flow y.name y.len) + g x.flow x.name x.len ≡ total
       (λ y. g y.flow y.name y.len) taken) →
-      ((f n : ℕ) → All (λ y. y.flow ≡ f → y.name < n) taken → Everywhere (λ y. y.flow ≡ f → y.name < n) ports loose × (x.flow ≡ f → x.name < n)) →
+      ((f n : ℕ) → AllByRecursion (λ y. y.flow ≡ f → y.name < n) taken → Everywhere (λ y. y.flow ≡ f → y.name < n) ports loose × (x.flow ≡ f → x.name < n)) →
       Inv S (record { now = now; ports = enter S (S.route x.flow (length x.past)) now x ports; loose = loose; level = paid S x level; taken = taken })
   unfolding ports' q new M
   entering kept known = record {

@@ -1,7 +1,7 @@
 -- A front of a line leaves at once.
 use Rattle.std.proofs.Common.{◌≡◌, ℕ, ◌+◌, ◌<◌, ◌≤◌, List, [], ◌∷◌, ◌++◌, length, set, sym, ap, ◌∙◌, subst, ap₂, append_assoc, append-nil}
 use Rattle.std.proofs.lemmas.List.{get_or-set_same, set-get_or, set-set}
-use Rattle.std.specs.List.{AllByRecursion as All}
+use Rattle.std.specs.List.{AllByRecursion}
 use Rattle.calculus.proofs.Lines.{at_port, line_same}
 use Rattle.calculus.specs.Systems.{Port, Reaches, Step, System, Traced, World, departed, entry, idle, line_at, popped}
 
@@ -13,7 +13,7 @@ run_after S s t u r (Reaches.then {v = v} q step) = Reaches.then (run_after S s 
 abbrev pub with_ports : World → List Port → List Traced → World
 with_ports st ports loose = record { now = st.now; ports = ports; loose = loose; level = st.level; taken = st.taken }
 
-pub hands_over : (S : System) (st : World) (p : ℕ) (xs rest : List Traced) → line_at st.ports p ≡ xs ++ rest → All (λ x. entry x + S.least p + 1 ≤ st.now) xs
+pub hands_over : (S : System) (st : World) (p : ℕ) (xs rest : List Traced) → line_at st.ports p ≡ xs ++ rest → AllByRecursion (λ x. entry x + S.least p + 1 ≤ st.now) xs
     → Reaches S st (with_ports st (popped p rest st.ports) (st.loose ++ xs))
 hands_over S st p [] rest e h = subst (λ (s : World). Reaches S st s) (ap₂ (with_ports st) same (sym (append-nil st.loose))) Reaches.here
   where

@@ -1,6 +1,6 @@
 -- What holds between any two steps.
 use Rattle.std.proofs.Common.{◌≡◌, ℕ, ◌+◌, ◌*◌, ◌<◌, ◌≤◌, true, false, List, length, get_or}
-use Rattle.std.specs.List.{AllByRecursion as All}
+use Rattle.std.specs.List.{AllByRecursion}
 use Rattle.calculus.specs.Buckets.{Bucket}
 use Rattle.calculus.specs.Laws.{Pairs}
 use Rattle.calculus.specs.Ports.{Busy}
@@ -50,7 +50,7 @@ abbrev pub Same : Traced → Traced → Type 0
 Same x y = x.flow ≡ y.flow → length x.past ≡ length y.past → Ahead x y
 
 abbrev pub Each : (ℕ → Traced → Type 0) → List Port → List Traced → Type 0
-Each Q ports loose = All (Q 1) loose × ((p : ℕ) → All (Q 0) (line_at ports p))
+Each Q ports loose = AllByRecursion (Q 1) loose × ((p : ℕ) → AllByRecursion (Q 0) (line_at ports p))
 
 pub record Ordered (ports : List Port) (loose : List Traced) : Type 0 where
   pub cross : Each (λ s x. Each (λ t y. Cross s t x y) ports loose) ports loose
@@ -61,10 +61,10 @@ pub record Inv (S : System) (w : World) : Type 0 where
   pub size : length w.ports ≡ S.count
   pub ways : Everywhere (λ x. Ways S x.flow x.past) w.ports w.loose
   pub seen : Everywhere (λ x. Seen w.now x.past) w.ports w.loose
-  pub lines : (p : ℕ) → All (Lined S w.now p) (line_at w.ports p)
-  pub held : All (Loose S w.now) w.loose
+  pub lines : (p : ℕ) → AllByRecursion (Lined S w.now p) (line_at w.ports p)
+  pub held : AllByRecursion (Loose S w.now) w.loose
   pub buckets : (f k : ℕ) → S.regulated f k ≡ true → Bucket (S.cap f) (S.pace f) w.now (w.level f k) (came w (leg f k))
   pub busy : (p : ℕ) → p < S.count → Busy (S.rate p) (get_or w.ports p idle).finish w.now (arrived S w p)
   pub order : Ordered w.ports w.loose
   pub kept : (g : ℕ → ℕ → ℕ → ℕ) → sum_of w.ports w.loose (λ x. g x.flow x.name x.len) ≡ total (λ x. g x.flow x.name x.len) w.taken
-  pub known : (f n : ℕ) → All (λ x. x.flow ≡ f → x.name < n) w.taken → Everywhere (λ x. x.flow ≡ f → x.name < n) w.ports w.loose
+  pub known : (f n : ℕ) → AllByRecursion (λ x. x.flow ≡ f → x.name < n) w.taken → Everywhere (λ x. x.flow ≡ f → x.name < n) w.ports w.loose

@@ -3,7 +3,7 @@ use Rattle.std.proofs.Common.{◌≡◌, ℕ, zero, suc, ◌+◌, ◌-◌, ◌<�
 use native.Mathlib.Decide.{dec_le}
 use lib.ListN.{length-replicate}
 use Rattle.std.proofs.ByRecursion.{All-weaker}
-use Rattle.std.specs.List.{AllByRecursion as All}
+use Rattle.std.specs.List.{AllByRecursion}
 use Rattle.calculus.proofs.Buckets.{bucket_starts}
 use Rattle.calculus.proofs.Entering.{conform}
 use Rattle.calculus.proofs.Hops.{holds}
@@ -74,7 +74,7 @@ lawful S sound st inv =
           (l.ready k (omega arith) (omega arith)).far,
         ))
 
-    order' : (xs : List Traced) → Pairs Same xs → All (Loose S st.now) xs → Pairs (λ x y. x.flow ≡ y.flow → Out S x → Out S y → x.name < y.name) xs
+    order' : (xs : List Traced) → Pairs Same xs → AllByRecursion (Loose S st.now) xs → Pairs (λ x y. x.flow ≡ y.flow → Out S x → Out S y → x.name < y.name) xs
     order' [] a b = tt
     order' (x ∷ xs) a b = (All-weaker _ _ (λ y h e p q. (h e (p ∙ ap S.hops e ∙ sym q)).named) xs a.0, order' xs a.1 b.1)
 
@@ -91,12 +91,12 @@ lawful S sound st inv =
           hit_in (st.now - d) (st.now - d + d) (entry x) x.len (omega arith) (omega (arith, seen (length x.past - 1) (omega (arith, ins.some)))),
         )
 
-    all_each : (p d : ℕ) (xs : List Traced) → All (Lined S st.now p) xs → All (λ x. Seen st.now x.past) xs
-        → All (λ x. st.now ≤ entry x + d) xs → All (λ x. x.len ≤ total (λ c. crossing c (st.now - d) (st.now - d + d) x) (S.users p)) xs
+    all_each : (p d : ℕ) (xs : List Traced) → AllByRecursion (Lined S st.now p) xs → AllByRecursion (λ x. Seen st.now x.past) xs
+        → AllByRecursion (λ x. st.now ≤ entry x + d) xs → AllByRecursion (λ x. x.len ≤ total (λ c. crossing c (st.now - d) (st.now - d + d) x) (S.users p)) xs
     all_each p d [] a b c = tt
     all_each p d (x ∷ xs) a b c = (each p d x a.0 b.0 c.0, all_each p d xs a.1 b.1 c.1)
 
-    held_bits : (p d : ℕ) → All (λ x. st.now ≤ entry x + d) (line_at st.ports p)
+    held_bits : (p d : ℕ) → AllByRecursion (λ x. st.now ≤ entry x + d) (line_at st.ports p)
         → total (λ x. x.len) (line_at st.ports p) ≤ total (λ c. S.curve c.flow c.hop d) (S.users p)
     held_bits p d h =
         holds (λ n. total (λ c. S.curve c.flow c.hop n) (S.users p)) d st.now (total (λ x. x.len) (line_at st.ports p)) (arrived S st p)
@@ -124,8 +124,8 @@ start_inv S = record {
   known = λ f n h. (tt, none _);
 }
   where
-    none : (Q : Traced → Type 0) (p : ℕ) → All Q (line_at (replicate S.count idle) p)
-    none Q p = subst (λ (y : Port). All Q y.line) (sym (idle_at S.count p)) tt
+    none : (Q : Traced → Type 0) (p : ℕ) → AllByRecursion Q (line_at (replicate S.count idle) p)
+    none Q p = subst (λ (y : Port). AllByRecursion Q y.line) (sym (idle_at S.count p)) tt
 
 pub run_inv : (S : System) → Sound S → (st : World) → Reaches S (empty S) st → Inv S st
 run_inv S sound st Reaches.here = start_inv S

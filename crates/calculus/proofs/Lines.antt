@@ -3,7 +3,7 @@ use Rattle.std.proofs.Common.{◌≡◌, ℕ, zero, suc, ◌+◌, ◌<◌, ◌�
 use native.Mathlib.Decide.{dec_lt, ℕ_discrete}
 use Rattle.std.proofs.ByRecursion.{All-from_get_or, All-push}
 use Rattle.std.proofs.lemmas.List.{get_or_past, get_or-set_other, get_or-set_same}
-use Rattle.std.specs.List.{AllByRecursion as All}
+use Rattle.std.specs.List.{AllByRecursion}
 use Rattle.calculus.proofs.Sums.{total_add, total_at, total_below, total_le, total_push, total_set, total_zero}
 use Rattle.calculus.specs.Systems.{Everywhere, In, Leg, Port, System, Traced, enter, idle, line_at, popped, port_with, sum_of, with_entry}
 use Rattle.calculus.specs.Windows.{total}
@@ -75,23 +75,23 @@ pub line_other : (ports : List Port) (q p : ℕ) (y : Port) → (p ≡ q → ⊥
 line_other ports q p y h = ap Port.line (get_or-set_other ports q p y idle h)
 
 -- what holds of each line still holds where one line is replaced
-pub all_set_line : (Q : ℕ → Traced → Type 0) (ports : List Port) (q : ℕ) (y : Port) → ((p : ℕ) → All (Q p) (line_at ports p)) → q < length ports
-    → All (Q q) y.line → (p : ℕ) → All (Q p) (line_at (set ports q y) p)
+pub all_set_line : (Q : ℕ → Traced → Type 0) (ports : List Port) (q : ℕ) (y : Port) → ((p : ℕ) → AllByRecursion (Q p) (line_at ports p)) → q < length ports
+    → AllByRecursion (Q q) y.line → (p : ℕ) → AllByRecursion (Q p) (line_at (set ports q y) p)
 all_set_line Q ports q y each h new p =
     elim (ℕ_discrete p q) [
-      | yes e ↦ subst (λ r. All (Q r) (line_at (set ports q y) r)) (sym e) (subst (All (Q q)) (sym (line_same ports q y h)) new)
-      | no e ↦ subst (All (Q p)) (sym (line_other ports q p y e)) (each p)
+      | yes e ↦ subst (λ r. AllByRecursion (Q r) (line_at (set ports q y) r)) (sym e) (subst (AllByRecursion (Q q)) (sym (line_same ports q y h)) new)
+      | no e ↦ subst (AllByRecursion (Q p)) (sym (line_other ports q p y e)) (each p)
     ]
 
-module _ (Q : ℕ → Traced → Type 0) (ports : List Port) (each : (p : ℕ) → All (Q p) (line_at ports p)) where
+module _ (Q : ℕ → Traced → Type 0) (ports : List Port) (each : (p : ℕ) → AllByRecursion (Q p) (line_at ports p)) where
   pub all_enter : (S : System) (q s : ℕ) (x : Traced) → q < length ports → Q q (with_entry S q s (get_or ports q idle).finish x) → (p : ℕ)
-      → All (Q p) (line_at (enter S q s x ports) p)
+      → AllByRecursion (Q p) (line_at (enter S q s x ports) p)
   all_enter S q s x h new = all_set_line Q ports q (port_with S q s x (get_or ports q idle)) each h (All-push (Q q) (line_at ports q) _ (each q) new)
 
-  pub first_of : (r : ℕ) (x : Traced) (rest : List Traced) → line_at ports r ≡ x ∷ rest → Q r x × All (Q r) rest
-  first_of r x rest e = subst (All (Q r)) e (each r)
+  pub first_of : (r : ℕ) (x : Traced) (rest : List Traced) → line_at ports r ≡ x ∷ rest → Q r x × AllByRecursion (Q r) rest
+  first_of r x rest e = subst (AllByRecursion (Q r)) e (each r)
 
-  pub all_popped : (r : ℕ) (x : Traced) (rest : List Traced) → line_at ports r ≡ x ∷ rest → (p : ℕ) → All (Q p) (line_at (popped r rest ports) p)
+  pub all_popped : (r : ℕ) (x : Traced) (rest : List Traced) → line_at ports r ≡ x ∷ rest → (p : ℕ) → AllByRecursion (Q p) (line_at (popped r rest ports) p)
   all_popped r x rest e = all_set_line Q ports r _ each (at_port ports r x rest e) (first_of r x rest e).1
 
 sum_add : (f g : Traced → ℕ) (ports : List Port) (out : List Traced) → sum_of ports out (λ x. f x + g x) ≡ sum_of ports out f + sum_of ports out g

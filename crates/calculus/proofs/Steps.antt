@@ -3,7 +3,7 @@ use Rattle.std.proofs.Common.{◌≡◌, ℕ, ◌+◌, ◌-◌, ◌*◌, ◌<◌
 use native.Mathlib.Decide.{ℕ_discrete}
 use Rattle.std.proofs.ByRecursion.{All-push, All-weaker}
 use Rattle.std.proofs.lemmas.List.{get_or-set_other, get_or-set_same, length-set}
-use Rattle.std.specs.List.{AllByRecursion as All}
+use Rattle.std.specs.List.{AllByRecursion}
 use Rattle.calculus.proofs.Buckets.{bucket_rises, bucket_same}
 use Rattle.calculus.proofs.Entering.{Base, entering}
 use Rattle.calculus.proofs.Hops.{bucket_waits}
@@ -21,7 +21,7 @@ use Rattle.calculus.specs.Windows.{Until, total}
 
 -- a frame leaves a line with all that held of it
 module _ (S : System) (sound : Sound S) (st : World) (inv : Inv S st) where
-  accept_step : (f name len : ℕ) → 0 < S.hops f → len ≤ st.level f 0 → All (λ y. y.flow ≡ f → y.name < name) st.taken
+  accept_step : (f name len : ℕ) → 0 < S.hops f → len ≤ st.level f 0 → AllByRecursion (λ y. y.flow ≡ f → y.name < name) st.taken
       → Inv S (taken_in S st (bare f name len))
   accept_step f name len has free later = entering S sound st.now st.ports st.loose st.level (st.taken ++ x ∷ []) x base' kept known
     where
@@ -64,11 +64,11 @@ module _ (S : System) (sound : Sound S) (st : World) (inv : Inv S st) where
           (λ y. g y.flow y.name y.len) (st.taken ++ x ∷ [])
       kept g = omega (arith, inv.kept g, total_push (λ (y : Traced). g y.flow y.name y.len) st.taken x)
 
-      known : (g n : ℕ) → All (λ y. y.flow ≡ g → y.name < n) (st.taken ++ x ∷ [])
+      known : (g n : ℕ) → AllByRecursion (λ y. y.flow ≡ g → y.name < n) (st.taken ++ x ∷ [])
           → Everywhere (λ y. y.flow ≡ g → y.name < n) st.ports st.loose × (f ≡ g → name < n)
       known g n h = (inv.known g n (front st.taken h), all_mid (λ y. y.flow ≡ g → y.name < n) st.taken x [] h)
         where
-          front : (xs : List Traced) → All (λ y. y.flow ≡ g → y.name < n) (xs ++ x ∷ []) → All (λ y. y.flow ≡ g → y.name < n) xs
+          front : (xs : List Traced) → AllByRecursion (λ y. y.flow ≡ g → y.name < n) (xs ++ x ∷ []) → AllByRecursion (λ y. y.flow ≡ g → y.name < n) xs
           front [] h = tt
           front (y ∷ ys) h = (h.0, front ys h.1)
 
@@ -130,15 +130,15 @@ module _ (S : System) (sound : Sound S) (st : World) (inv : Inv S st) where
             near : st.now ≤ get_or x.past k 0 + S.stay p + 1
             near = omega (arith, ins.waits, ins.served k q)
 
-  join_step : (us : List Traced) (x : Traced) (vs : List Traced) → st.loose ≡ us ++ x ∷ vs → All (Apart x) us → length x.past < S.hops x.flow →
+  join_step : (us : List Traced) (x : Traced) (vs : List Traced) → st.loose ≡ us ++ x ∷ vs → AllByRecursion (Apart x) us → length x.past < S.hops x.flow →
       (S.regulated x.flow (length x.past) ≡ true → x.len ≤ st.level x.flow (length x.past)) → Inv S (joined S st us x vs)
   join_step us x vs e apart room free = entering S sound st.now st.ports (us ++ vs) st.level st.taken x base' kept known
     where
       order' : Ordered st.ports (us ++ x ∷ vs)
       order' = subst (Ordered st.ports) e inv.order
 
-      all : (Q : Traced → Type 0) → All Q st.loose → All Q (us ++ x ∷ vs)
-      all Q h = subst (All Q) e h
+      all : (Q : Traced → Type 0) → AllByRecursion Q st.loose → AllByRecursion Q (us ++ x ∷ vs)
+      all Q h = subst (AllByRecursion Q) e h
 
       sums : (g : Traced → ℕ) → sum_of st.ports (us ++ vs) g + g x ≡ sum_of st.ports st.loose g
       sums g = omega (arith, mid_sum st.ports st.loose us x vs g e)
@@ -174,9 +174,9 @@ module _ (S : System) (sound : Sound S) (st : World) (inv : Inv S st) where
           (λ y. g y.flow y.name y.len) st.taken
       kept g = sums (λ y. g y.flow y.name y.len) ∙ inv.kept g
 
-      known : (g n : ℕ) → All (λ y. y.flow ≡ g → y.name < n) st.taken
+      known : (g n : ℕ) → AllByRecursion (λ y. y.flow ≡ g → y.name < n) st.taken
           → Everywhere (λ y. y.flow ≡ g → y.name < n) st.ports (us ++ vs) × (x.flow ≡ g → x.name < n)
-      known g n h = let k : All (λ y. y.flow ≡ g → y.name < n) (us ++ x ∷ vs) = all (λ y. y.flow ≡ g → y.name < n) (inv.known g n h).0 in
+      known g n h = let k : AllByRecursion (λ y. y.flow ≡ g → y.name < n) (us ++ x ∷ vs) = all (λ y. y.flow ≡ g → y.name < n) (inv.known g n h).0 in
           ((all_but (λ y. y.flow ≡ g → y.name < n) us x vs k, (inv.known g n h).1), all_mid (λ y. y.flow ≡ g → y.name < n) us x vs k)
 
   -- the first of its flow before a regulated hop, held back by its bucket: it has not been under way for too long
@@ -219,17 +219,17 @@ module _ (S : System) (sound : Sound S) (st : World) (inv : Inv S st) where
       rows : Everywhere (λ y. (Ways S y.flow y.past) × (f ≡ y.flow → 2 * length x.past + 1 < 2 * length y.past + 1 → Ahead y x)) st.ports st.loose
       rows = (
         all_both _ _ _ (λ y a b. (a, λ s l. b (sym s) l)) st.loose inv.ways.0
-            (All-weaker _ (λ y. Cross 1 1 y x) (λ y h. all_mid (Cross 1 1 y) us x vs (subst (All (Cross 1 1 y)) e h.0)) st.loose
+            (All-weaker _ (λ y. Cross 1 1 y x) (λ y h. all_mid (Cross 1 1 y) us x vs (subst (AllByRecursion (Cross 1 1 y)) e h.0)) st.loose
             inv.order.cross.0),
         λ p. all_both _ _ _ (λ y a b. (a, λ s l. b (sym s) (omega arith))) (line_at st.ports p) (inv.ways.1 p)
-            (All-weaker _ (λ y. Cross 0 1 y x) (λ y h. all_mid (Cross 0 1 y) us x vs (subst (All (Cross 0 1 y)) e h.0)) (line_at st.ports p)
+            (All-weaker _ (λ y. Cross 0 1 y x) (λ y h. all_mid (Cross 0 1 y) us x vs (subst (AllByRecursion (Cross 0 1 y)) e h.0)) (line_at st.ports p)
             (inv.order.cross.1 p)),
       )
 
       rows' : (A : Traced → Type 0) → ((y : Traced)
           → (Ways S y.flow y.past) × (f ≡ y.flow → 2 * length x.past + 1 < 2 * length y.past + 1 → Ahead y x) → A y)
           → Everywhere A st.ports (us ++ vs)
-      rows' A h = (all_but A us x vs (subst (All A) e (All-weaker _ _ h st.loose rows.0)), λ p. All-weaker _ _ h (line_at st.ports p) (rows.1 p))
+      rows' A h = (all_but A us x vs (subst (AllByRecursion A) e (All-weaker _ _ h st.loose rows.0)), λ p. All-weaker _ _ h (line_at st.ports p) (rows.1 p))
 
       behind : (u : ℕ) → u - X ≤ t → came st (leg f (k + 1)) u st.now + x.len ≤ came st (leg f j) (u - X) t
       behind u h =
@@ -265,7 +265,7 @@ module _ (S : System) (sound : Sound S) (st : World) (inv : Inv S st) where
                 | no s ↦ omega (arith, only_other f y.flow (visit (k + 1) u st.now y.past y.len) s)
               ]
 
-  tick_step : ((p : ℕ) → All (λ x. st.now ≤ x.due) (line_at st.ports p)) → Blocked S st → Inv S (ticked S st)
+  tick_step : ((p : ℕ) → AllByRecursion (λ x. st.now ≤ x.due) (line_at st.ports p)) → Blocked S st → Inv S (ticked S st)
   tick_step served blocked = record {
     size = inv.size;
     ways = inv.ways;
@@ -320,7 +320,7 @@ module _ (S : System) (sound : Sound S) (st : World) (inv : Inv S st) where
       held' us x vs e = record { some = old.some; along = old.along; ready = ready }
         where
           old : Loose S st.now x
-          old = all_mid (Loose S st.now) us x vs (subst (All (Loose S st.now)) e inv.held)
+          old = all_mid (Loose S st.now) us x vs (subst (AllByRecursion (Loose S st.now)) e inv.held)
 
           first : First (us ++ x ∷ vs) x
           first = find_first us x vs (subst (Pairs Same) e inv.order.queued)

@@ -1,7 +1,7 @@
 -- Sums over lists, and what falls into a window.
 use Rattle.std.proofs.Common.{◌≡◌, ℕ, zero, suc, ◌+◌, ◌*◌, ◌<◌, ◌≤◌, List, [], ◌∷◌, ◌++◌, length, get_or, set, sym, refl, arith}
 use Rattle.std.proofs.lemmas.Bool.Decides.{nat_tests}
-use Rattle.std.specs.List.{AllByRecursion as All}
+use Rattle.std.specs.List.{AllByRecursion}
 use Rattle.calculus.specs.Windows.{hit, total}
 
 pub total_append : {X : Type 0} (f : X → ℕ) (xs ys : List X) → total f (xs ++ ys) ≡ total f xs + total f ys
@@ -12,7 +12,7 @@ pub total_push : {X : Type 0} (f : X → ℕ) (xs : List X) (y : X) → total f 
 total_push f xs y = omega (arith, total_append f xs (y ∷ []))
 
 -- pointwise below, at each element of the list
-pub total_le : {X : Type 0} (f g : X → ℕ) (xs : List X) → All (λ x. f x ≤ g x) xs → total f xs ≤ total g xs
+pub total_le : {X : Type 0} (f g : X → ℕ) (xs : List X) → AllByRecursion (λ x. f x ≤ g x) xs → total f xs ≤ total g xs
 total_le f g [] h = omega arith
 total_le f g (x ∷ xs) h = omega (arith, total_le f g xs h.1)
 
@@ -59,12 +59,12 @@ unfolding hit
 hit_early u v s l h = grind (arith, nat_tests)
 
 -- each element counts at least l
-pub total_many : {X : Type 0} (g : X → ℕ) (l : ℕ) (xs : List X) → All (λ x. l ≤ g x) xs → length xs * l ≤ total g xs
+pub total_many : {X : Type 0} (g : X → ℕ) (l : ℕ) (xs : List X) → AllByRecursion (λ x. l ≤ g x) xs → length xs * l ≤ total g xs
 total_many g l [] h = omega arith
 total_many g l (x ∷ xs) h = omega (arith, h.0, total_many g l xs h.1)
 
 -- and at most b
-pub total_most : {X : Type 0} (g : X → ℕ) (b : ℕ) (xs : List X) → All (λ x. g x ≤ b) xs → total g xs ≤ length xs * b
+pub total_most : {X : Type 0} (g : X → ℕ) (b : ℕ) (xs : List X) → AllByRecursion (λ x. g x ≤ b) xs → total g xs ≤ length xs * b
 total_most g b [] h = omega arith
 total_most g b (x ∷ xs) h = omega (arith, h.0, total_most g b xs h.1)
 

@@ -3,7 +3,7 @@ use Rattle.std.proofs.Common.{◌≡◌, ℕ, zero, suc, ◌+◌, ◌-◌, ◌<�
 use native.Mathlib.Decide.{dec_lt, ℕ_discrete}
 use Rattle.std.proofs.lemmas.List.{get_or_append_left, get_or_push, length_push}
 use Rattle.std.proofs.lemmas.Bool.Decides.{nat_tests}
-use Rattle.std.specs.List.{AllByRecursion as All}
+use Rattle.std.specs.List.{AllByRecursion}
 use Rattle.calculus.proofs.Invariants.{Same, Way, Ways}
 use Rattle.calculus.proofs.Sums.{total_append}
 use Rattle.calculus.proofs.Visits.{only_other, visit_none, visit_old}
@@ -81,7 +81,7 @@ pub mid_sum : (ports : List Port) (loose us : List Traced) (x : Traced) (vs : Li
     → sum_of ports loose g ≡ sum_of ports (us ++ vs) g + g x
 mid_sum ports loose us x vs g e = omega (arith, ap (total g) e, mid_total g us x vs)
 
-pub all_from_splits : (A : Traced → Type 0) (xs : List Traced) → ((us : List Traced) (x : Traced) (vs : List Traced) → xs ≡ us ++ x ∷ vs → A x) → All A xs
+pub all_from_splits : (A : Traced → Type 0) (xs : List Traced) → ((us : List Traced) (x : Traced) (vs : List Traced) → xs ≡ us ++ x ∷ vs → A x) → AllByRecursion A xs
 all_from_splits A [] f = tt
 all_from_splits A (x ∷ xs) f = (f [] x xs refl, all_from_splits A xs (λ us y vs e. f (x ∷ us) y vs (ap (λ zs. x ∷ zs) e)))
 
@@ -91,7 +91,7 @@ pub record First (xs : List Traced) (y : Traced) : Type 0 where
   pub e : Traced
   pub vs : List Traced
   pub split : xs ≡ us ++ e ∷ vs
-  pub apart : All (Apart e) us
+  pub apart : AllByRecursion (Apart e) us
   pub flow : e.flow ≡ y.flow
   pub hop : length e.past ≡ length y.past
   pub sooner : (j : ℕ) → j < length y.past → get_or e.past j 0 ≤ get_or y.past j 0
@@ -100,7 +100,7 @@ pub find_first : (us : List Traced) (y : Traced) (vs : List Traced) → Pairs Sa
 find_first [] y vs h = record { us = []; e = y; vs = vs; split = refl; apart = tt; flow = refl; hop = refl; sooner = λ j l. omega arith }
 find_first (u ∷ us) y vs h = go (ℕ_discrete u.flow y.flow) (ℕ_discrete (length u.past) (length y.past)) (find_first us y vs h.1)
   where
-    mid : (us : List Traced) → All (Same u) (us ++ y ∷ vs) → Same u y
+    mid : (us : List Traced) → AllByRecursion (Same u) (us ++ y ∷ vs) → Same u y
     mid [] k = k.0
     mid (v ∷ us) k = mid us k.1
 

@@ -1,6 +1,6 @@
 -- What one hop makes of the traffic that it hands to the next.
 use Rattle.std.specs.Prelude.{◌≡◌, ℕ, ◌+◌, ◌-◌, ◌/◌, ◌<◌, ◌≤◌, List, length}
-use Rattle.std.specs.List.{AllByRecursion as All}
+use Rattle.std.specs.List.{AllByRecursion}
 use Rattle.calculus.specs.Buckets.{Bucket}
 use Rattle.calculus.specs.Windows.{Conforms, affine, total}
 
@@ -22,7 +22,7 @@ Holds = (curve : ℕ → ℕ) (D s bits : ℕ) (W : ℕ → ℕ → ℕ) → bit
 
 -- frames of at least l bits are no more than their bits div l
 abbrev pub Counts : Type 0
-Counts = (lens : List ℕ) (l bits : ℕ) → 0 < l → All (λ n. l ≤ n) lens → total (λ n. n) lens ≤ bits → length lens ≤ bits / l
+Counts = (lens : List ℕ) (l bits : ℕ) → 0 < l → AllByRecursion (λ n. l ≤ n) lens → total (λ n. n) lens ≤ bits → length lens ≤ bits / l
 
 -- A regulator adds nothing: let W be what it has let pass and V the same traffic where it last conformed, in each case at most X slots before.
 -- If l bits that V had in the slot t still wait, t is less than X slots ago.

@@ -1,6 +1,6 @@
 -- Frames on fixed routes through ports, regulated at some hops: an abstract system that takes one step at a time.
 use Rattle.std.specs.Prelude.{◌≡◌, ℕ, zero, suc, ◌+◌, ◌-◌, ◌*◌, ◌<◌, ◌≤◌, min, Bool, true, false, cond, ◌&&◌, ◌⊎◌, List, [], ◌∷◌, ◌++◌, length, get_or, replicate, ◌==◌, ◌≢◌, nat_lt, slice_index, slice_index_or, slice_set}
-use Rattle.std.specs.List.{AllByRecursion as All}
+use Rattle.std.specs.List.{AllByRecursion}
 use Rattle.rounding.specs.Quotients.{up}
 use Rattle.calculus.specs.Ports.{finish_of}
 use Rattle.calculus.specs.Windows.{hit, total}
@@ -55,7 +55,7 @@ In c (d ∷ ds) = (c ≡ d) ⊎ In c ds
 pub record Sound (S : System) : Type 0 where
   pub placed : (f k : ℕ) → k < S.hops f → S.route f k < S.count
   pub used : (f k : ℕ) → k < S.hops f → In (leg f k) (S.users (S.route f k))
-  pub real : (p : ℕ) → All (λ c. c.hop < S.hops c.flow) (S.users p)
+  pub real : (p : ℕ) → AllByRecursion (λ c. c.hop < S.hops c.flow) (S.users p)
   pub fed : (p : ℕ) → p < S.count → 0 < S.rate p
   pub ordered : (p : ℕ) → p < S.count → S.least p ≤ S.stay p
   pub first : (f : ℕ) → S.regulated f 0 ≡ true
@@ -119,7 +119,7 @@ sum_of ports loose g = total g loose + total (λ p. total g p.line) ports
 
 -- what holds of all frames, wherever they are
 abbrev pub Everywhere : (Traced → Type 0) → List Port → List Traced → Type 0
-Everywhere Q ports loose = All Q loose × ((p : ℕ) → All Q (line_at ports p))
+Everywhere Q ports loose = AllByRecursion Q loose × ((p : ℕ) → AllByRecursion Q (line_at ports p))
 
 -- the bits of a flow that port_with a hop in the slots u..v
 abbrev pub came : World → Leg → ℕ → ℕ → ℕ
@@ -196,20 +196,20 @@ ticked S w = record { now = w.now + 1; ports = w.ports; loose = w.loose; level =
 abbrev pub Blocked : System → World → Type 0
 Blocked S w =
     (us : List Traced) (x : Traced) (vs : List Traced) → w.loose ≡ us ++ x ∷ vs → length x.past < S.hops x.flow
-    → (S.regulated x.flow (length x.past) ≡ true) × (All (Apart x) us → w.level x.flow (length x.past) < x.len)
+    → (S.regulated x.flow (length x.past) ≡ true) × (AllByRecursion (Apart x) us → w.level x.flow (length x.past) < x.len)
 
 pub data Step (S : System) : World → World → Type 0 where
   -- a frame with a name past all of its flow's enters its first port, if the flow's bucket covers its bits
-  accepts : {w : World} (f name len : ℕ) → 0 < S.hops f → len ≤ w.level f 0 → All (λ y. y.flow ≡ f → y.name < name) w.taken
+  accepts : {w : World} (f name len : ℕ) → 0 < S.hops f → len ≤ w.level f 0 → AllByRecursion (λ y. y.flow ≡ f → y.name < name) w.taken
       → Step S w (taken_in S w (bare f name len))
   -- the first of a line leaves it, after the least stay
   leaves : {w : World} (p : ℕ) (x : Traced) (rest : List Traced) → line_at w.ports p ≡ x ∷ rest → entry x + S.least p + 1 ≤ w.now
       → Step S w (departed w p x rest)
   -- the first of its flow that is loose before a hop enters it, if no regulator stands there or its level covers the bits
-  joins : {w : World} (us : List Traced) (x : Traced) (vs : List Traced) → w.loose ≡ us ++ x ∷ vs → All (Apart x) us → length x.past < S.hops x.flow
+  joins : {w : World} (us : List Traced) (x : Traced) (vs : List Traced) → w.loose ≡ us ++ x ∷ vs → AllByRecursion (Apart x) us → length x.past < S.hops x.flow
       → (S.regulated x.flow (length x.past) ≡ true → x.len ≤ w.level x.flow (length x.past)) → Step S w (joined S w us x vs)
   -- a slot begins once no frame that was due by the end of the slot before last is in a line, and the loose frames are out or held back
-  ticks : {w : World} → ((p : ℕ) → All (λ x. w.now ≤ x.due) (line_at w.ports p)) → Blocked S w → Step S w (ticked S w)
+  ticks : {w : World} → ((p : ℕ) → AllByRecursion (λ x. w.now ≤ x.due) (line_at w.ports p)) → Blocked S w → Step S w (ticked S w)
 
 pub data Reaches (S : System) (start : World) : World → Type 0 where
   here : Reaches S start start

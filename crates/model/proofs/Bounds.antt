@@ -4,7 +4,7 @@ use native.Mathlib.Decide.{dec_lt}
 use Rattle.std.proofs.ByRecursion.{All-get_or, All-map, All-weaker}
 use Rattle.std.proofs.lemmas.List.{get_or_past, length-map}
 use Rattle.std.proofs.lemmas.Bool.Decides.{nat_tests}
-use Rattle.std.specs.List.{AllByRecursion as All}
+use Rattle.std.specs.List.{AllByRecursion}
 use Rattle.draft.specs.Plans.{flow_at, port_at}
 use Rattle.draft.specs.declared.parts.Parts.{Parts}
 use Rattle.draft.specs.declared.table.Table.{Table}
@@ -56,23 +56,23 @@ odd_tells P f a n e = size_tells P f n (go (in_size P f n) e)
     go true q = refl
     go false q = absurd (omega arith)
 
-total_none : {X : Type 0} (g : X → ℕ) (xs : List X) → total g xs ≡ 0 → All (λ x. g x ≡ 0) xs
+total_none : {X : Type 0} (g : X → ℕ) (xs : List X) → total g xs ≡ 0 → AllByRecursion (λ x. g x ≡ 0) xs
 total_none g [] h = tt
 total_none g (x ∷ xs) h = (omega arith, total_none g xs (omega arith))
 
-none_total : {X : Type 0} (g : X → ℕ) (xs : List X) → All (λ x. g x ≡ 0) xs → total g xs ≡ 0
+none_total : {X : Type 0} (g : X → ℕ) (xs : List X) → AllByRecursion (λ x. g x ≡ 0) xs → total g xs ≡ 0
 none_total g [] h = refl
 none_total g (x ∷ xs) h = omega (arith, h.0, none_total g xs h.1)
 
-at_line : (A : Traced → Type 0) (ports : List Port) → All (λ (q : Port). All A q.line) ports → (p : ℕ) → All A (line_at ports p)
+at_line : (A : Traced → Type 0) (ports : List Port) → AllByRecursion (λ (q : Port). AllByRecursion A q.line) ports → (p : ℕ) → AllByRecursion A (line_at ports p)
 at_line A ports h p =
     elim (dec_lt p (length ports)) [
-      | yes l ↦ All-get_or (λ (q : Port). All A q.line) ports p idle l h
-      | no l ↦ subst (λ (q : Port). All A q.line) (sym (get_or_past ports p idle (omega arith))) tt
+      | yes l ↦ All-get_or (λ (q : Port). AllByRecursion A q.line) ports p idle l h
+      | no l ↦ subst (λ (q : Port). AllByRecursion A q.line) (sym (get_or_past ports p idle (omega arith))) tt
     ]
 
 -- what holds of all that was taken in holds of all that is there
-pub all_sized : (P : Parts) (S : System) (w : World) → Inv S w → All (λ y. in_size P y.flow y.len ≡ true) w.taken
+pub all_sized : (P : Parts) (S : System) (w : World) → Inv S w → AllByRecursion (λ y. in_size P y.flow y.len ≡ true) w.taken
     → Everywhere (λ y. Size P y.flow y.len) w.ports w.loose
 all_sized P S w inv h = (
   All-weaker _ _ (λ y e. odd_tells P y.flow y.name y.len e) w.loose (total_none _ w.loose (omega (arith, zero_all))),
@@ -84,7 +84,7 @@ all_sized P S w inv h = (
     zero_all = inv.kept (odd P) ∙ none_total _ w.taken (All-weaker _ _ (λ y e. odd_none P y.flow y.name y.len e) w.taken h)
 
 -- frames of at least l bits, by their number
-few : (l Q b : ℕ) (xs : List Traced) → 0 < l → All (λ x. l ≤ x.len) xs → total (λ x. x.len) xs ≤ Q → Q / l ≤ b → length xs ≤ b
+few : (l Q b : ℕ) (xs : List Traced) → 0 < l → AllByRecursion (λ x. l ≤ x.len) xs → total (λ x. x.len) xs ≤ Q → Q / l ≤ b → length xs ≤ b
 few l Q b xs pos h q e =
     omega (
       arith,
@@ -105,14 +105,14 @@ module _ (P : Parts) (t : Table) (kept : Kept P) (ok : Accepted P t) (w : World)
   inv : Inv (system_of P t) w
   inv = run_inv (system_of P t) (sound P t kept ok) w run
 
-  module _ (prompt : (p : ℕ) → All (λ x. w.now ≤ x.due) (line_at w.ports p)) where
-    pub near : (p : ℕ) → All (λ x. w.now ≤ entry x + delay P t p) (line_at w.ports p)
+  module _ (prompt : (p : ℕ) → AllByRecursion (λ x. w.now ≤ x.due) (line_at w.ports p)) where
+    pub near : (p : ℕ) → AllByRecursion (λ x. w.now ≤ entry x + delay P t p) (line_at w.ports p)
     near p = all_both _ _ _ (λ x a b. omega (arith, a, b.served (length x.past - 1) (omega (arith, b.some)))) (line_at w.ports p) (prompt p) (inv.lines p)
 
     pub line_bits : (p : ℕ) → p < P.size.ports → total (λ x. x.len) (line_at w.ports p) ≤ backlog P t p
     line_bits p h = omega (arith, law.holds p (delay P t p) (near p), curves_backlog P t kept ok p h)
 
-    pub line_few : (p : ℕ) → p < P.size.ports → All (λ y. in_size P y.flow y.len ≡ true) w.taken → length (line_at w.ports p) ≤ 32
+    pub line_few : (p : ℕ) → p < P.size.ports → AllByRecursion (λ y. in_size P y.flow y.len ≡ true) w.taken → length (line_at w.ports p) ≤ 32
     line_few p h s = few (port_at P p).shortest (backlog P t p) 32 (line_at w.ports p) (omega (arith, (kept.ports p h).shortest_least))
         (all_both _ _ _ long (line_at w.ports p) (inv.lines p) ((all_sized P (system_of P t) w inv s).1 p)) (line_bits p h) (ok.lines p h)
       where
@@ -171,7 +171,7 @@ module _ (P : Parts) (t : Table) (kept : Kept P) (ok : Accepted P t) (w : World)
           far = subst (λ g. w.now ≤ get_or x.past (base (system_of P t) g k) 0 + reach (system_of P t) g k) e
               (a.ready k (omega arith) (subst (λ g. k + 1 < hops_of P g) (sym e) (omega arith))).far
 
-      go : (xs : List Traced) → All (Loose (system_of P t) w.now) xs → All (λ x. Seen w.now x.past) xs
+      go : (xs : List Traced) → AllByRecursion (Loose (system_of P t) w.now) xs → AllByRecursion (λ x. Seen w.now x.past) xs
           → total (λ x. x.len) (loose_at f (suc k) xs) ≤ total (crossing c (w.now - X) (w.now - X + X)) xs
       go [] a b = omega arith
       go (x ∷ xs) a b =
@@ -185,7 +185,7 @@ module _ (P : Parts) (t : Table) (kept : Kept P) (ok : Accepted P t) (w : World)
             | no e ↦ omega (arith, ap (total (λ (x : Traced). x.len)) (loose_no f (suc k) x xs (λ p q. e (p, q))), go xs a.1 b.1)
           ]
 
-  pub held_few : (f k : ℕ) → suc k < hops_of P f → gated P f (suc k) ≡ true → All (λ y. in_size P y.flow y.len ≡ true) w.taken
+  pub held_few : (f k : ℕ) → suc k < hops_of P f → gated P f (suc k) ≡ true → AllByRecursion (λ y. in_size P y.flow y.len ≡ true) w.taken
       → length (loose_at f (suc k) w.loose) ≤ 16
   held_few f k h g s = few (flow_at P f).shortest ((flow_at P f).burst + (flow_at P f).rate * stretch P t f (suc k)) 16 (loose_at f (suc k) w.loose)
       (omega (arith, (fine P kept f (real_flow P f (suc k) h)).figures.shortest_least))
@@ -193,11 +193,11 @@ module _ (P : Parts) (t : Table) (kept : Kept P) (ok : Accepted P t) (w : World)
       (ok.regulators f (real_flow P f (suc k) h) (suc k) (omega (arith, hops_known P f (real_flow P f (suc k) h)))
       (sym (gated_known P f (suc k) (real_flow P f (suc k) h)) ∙ g))
     where
-      go : (xs : List Traced) → All (λ y. Size P y.flow y.len) xs → All (λ x. (flow_at P f).shortest ≤ x.len) (loose_at f (suc k) xs)
+      go : (xs : List Traced) → AllByRecursion (λ y. Size P y.flow y.len) xs → AllByRecursion (λ x. (flow_at P f).shortest ≤ x.len) (loose_at f (suc k) xs)
       go [] a = tt
       go (x ∷ xs) a =
           elim (dec_both x.flow f (length x.past) (suc k)) [
-            | yes e ↦ subst (All (λ x. (flow_at P f).shortest ≤ x.len)) (sym (loose_yes f (suc k) x xs e.0 e.1))
+            | yes e ↦ subst (AllByRecursion (λ x. (flow_at P f).shortest ≤ x.len)) (sym (loose_yes f (suc k) x xs e.0 e.1))
                 (subst (λ g. (flow_at P g).shortest ≤ x.len) e.0 a.0.low, go xs a.1)
-            | no e ↦ subst (All (λ x. (flow_at P f).shortest ≤ x.len)) (sym (loose_no f (suc k) x xs (λ p q. e (p, q)))) (go xs a.1)
+            | no e ↦ subst (AllByRecursion (λ x. (flow_at P f).shortest ≤ x.len)) (sym (loose_no f (suc k) x xs (λ p q. e (p, q)))) (go xs a.1)
           ]

@@ -1,7 +1,7 @@
 -- Between calls every run is calm.
 use Rattle.std.proofs.Common.{◌≡◌, ℕ, zero, suc, ◌+◌, ◌-◌, ◌<◌, ◌≤◌, true, false, List, [], ◌∷◌, ◌++◌, map, length, get_or, sym, refl, ap, ◌∙◌, subst, ap₂, append_assoc, append-nil, arith}
 use Rattle.std.proofs.ByRecursion.{All-append, All-map, All-push, All-weaker}
-use Rattle.std.specs.List.{AllByRecursion as All}
+use Rattle.std.specs.List.{AllByRecursion}
 use Rattle.draft.specs.declared.parts.Parts.{Parts}
 use Rattle.draft.specs.declared.table.Table.{Table}
 use Rattle.plan.specs.Limits.{Kept}
@@ -42,22 +42,22 @@ pub record Calm (P : Parts) (t : Table) (es : List Event) (st : State) : Type 0 
   pub settled : Settled P st
   pub dry : (f k : ℕ) → gated P f k ≡ false → st.waiting f k ≡ []
   pub order : (f : ℕ) → sent f es ≡ delivered P f es ++ chain P st [] f
-  pub timely : All (Timely P t) es
+  pub timely : AllByRecursion (Timely P t) es
 
-pub gather_all : (A : Frame → Type 0) (taken : ℕ → List Frame) → ((p : ℕ) → All A (taken p)) → (n : ℕ) → All A (gather n taken)
+pub gather_all : (A : Frame → Type 0) (taken : ℕ → List Frame) → ((p : ℕ) → AllByRecursion A (taken p)) → (n : ℕ) → AllByRecursion A (gather n taken)
 gather_all A taken h zero = tt
 gather_all A taken h (suc n) = All-append A (gather n taken) (taken n) (gather_all A taken h n) (h n)
 
-all_loose_at : (A : Traced → Type 0) (f n : ℕ) (xs : List Traced) → All (λ x. x.flow ≡ f → length x.past ≡ n → A x) xs → All A (loose_at f n xs)
+all_loose_at : (A : Traced → Type 0) (f n : ℕ) (xs : List Traced) → AllByRecursion (λ x. x.flow ≡ f → length x.past ≡ n → A x) xs → AllByRecursion A (loose_at f n xs)
 all_loose_at A f n [] h = tt
 all_loose_at A f n (x ∷ xs) h = elim (dec_both x.flow f (length x.past) n) [
-  | yes e ↦ subst (All A) (sym (loose_yes f n x xs e.0 e.1)) (h.0 e.0 e.1, all_loose_at A f n xs h.1)
-  | no e ↦ subst (All A) (sym (loose_no f n x xs (λ a b. e (a, b)))) (all_loose_at A f n xs h.1)
+  | yes e ↦ subst (AllByRecursion A) (sym (loose_yes f n x xs e.0 e.1)) (h.0 e.0 e.1, all_loose_at A f n xs h.1)
+  | no e ↦ subst (AllByRecursion A) (sym (loose_no f n x xs (λ a b. e (a, b)))) (all_loose_at A f n xs h.1)
 ]
 
 module _ (P : Parts) (t : Table) (kept : Kept P) (ok : Accepted P t) where
-  pub line_facts : (st : State) (p : ℕ → ℕ → List Frame) (w : World) → Shows P t st p w → (q : ℕ) → All (Fact P t st q) (st.line q)
-  line_facts st p w sh q = subst (All (Fact P t st q)) (sh.line q) (All-map (Fact P t st q) erase (line_at w.ports q)
+  pub line_facts : (st : State) (p : ℕ → ℕ → List Frame) (w : World) → Shows P t st p w → (q : ℕ) → AllByRecursion (Fact P t st q) (st.line q)
+  line_facts st p w sh q = subst (AllByRecursion (Fact P t st q)) (sh.line q) (All-map (Fact P t st q) erase (line_at w.ports q)
       (all_both _ _ _ (λ x a b. b a) (line_at w.ports q) (good.timely.1 q)
       (all_both _ _ (λ x. ((k : ℕ) → k < length x.past → get_or x.past k 0 ≤ get_or x.past 0 0 + path (system_of P t) x.flow k)
       → Fact P t st q (erase x)) (λ x a b c. fact x a b c) (line_at w.ports q) (inv.lines q) (near P t kept ok w sh.run sh.prompt q))))
@@ -92,8 +92,8 @@ module _ (P : Parts) (t : Table) (kept : Kept P) (ok : Accepted P t) where
           here = a.here (length x.past - 1) (omega (arith, a.some))
 
   pub waiting_facts : (st : State) (w : World) → Shows P t st (pend st.waiting []) w → (f k : ℕ) → suc k < hops_of P f
-      → All (λ x. st.slot ≤ x.origin + flow_delay P t f) (st.waiting f (suc k))
-  waiting_facts st w sh f k room = subst (All (λ x. st.slot ≤ x.origin + flow_delay P t f)) (sh.loose f k room ∙ append-nil (st.waiting f (suc k)))
+      → AllByRecursion (λ x. st.slot ≤ x.origin + flow_delay P t f) (st.waiting f (suc k))
+  waiting_facts st w sh f k room = subst (AllByRecursion (λ x. st.slot ≤ x.origin + flow_delay P t f)) (sh.loose f k room ∙ append-nil (st.waiting f (suc k)))
       (All-map (λ x. st.slot ≤ x.origin + flow_delay P t f) erase (loose_at f (suc k) w.loose)
       (all_loose_at _ f (suc k) w.loose (All-weaker _ _ each w.loose (every_run (system_of P t) (sound P t kept ok) w sh.run).held)))
     where
@@ -161,13 +161,13 @@ module _ (P : Parts) (t : Table) (kept : Kept P) (ok : Accepted P t) where
       → Calm P t (es ++ ended st.slot (tray P taken) (slot_end P taken rest st).lost ∷ []) (slot_end P taken rest st).state
   calm_end es st taken rest c early hd = risen_on (turn P t kept ok st c.world c.shows c.settled taken rest early hd)
     where
-      facts : (p : ℕ) → All (Fact P t st p) (st.line p)
+      facts : (p : ℕ) → AllByRecursion (Fact P t st p) (st.line p)
       facts = line_facts st (pend st.waiting []) c.world c.shows
 
-      of_taken : (A : ℕ → Frame → Type 0) → ((p : ℕ) (x : Frame) → Fact P t st p x → A p x) → (p : ℕ) → All (A p) (taken p)
-      of_taken A h p = all_front (A p) (taken p) (rest p) (subst (All (A p)) (hd.split p) (All-weaker _ _ (h p) (st.line p) (facts p)))
+      of_taken : (A : ℕ → Frame → Type 0) → ((p : ℕ) (x : Frame) → Fact P t st p x → A p x) → (p : ℕ) → AllByRecursion (A p) (taken p)
+      of_taken A h p = all_front (A p) (taken p) (rest p) (subst (AllByRecursion (A p)) (hd.split p) (All-weaker _ _ (h p) (st.line p) (facts p)))
 
-      stays : All (λ x. st.slot ≤ x.entry + delay P t (route P x.flow x.hop)) (tray P taken)
+      stays : AllByRecursion (λ x. st.slot ≤ x.entry + delay P t (route P x.flow x.hop)) (tray P taken)
       stays = gather_all _ taken (of_taken (λ _ x. st.slot ≤ x.entry + delay P t (route P x.flow x.hop))
           (λ p x a. omega (arith, a.stay, ap (delay P t) a.here))) P.size.ports
 

@@ -4,7 +4,7 @@ use native.Mathlib.Decide.{ℕ_discrete}
 use Rattle.std.proofs.lemmas.List.Elements.{filter-append}
 use Rattle.std.proofs.lemmas.List.{map-append}
 use Rattle.std.proofs.lemmas.Bool.{eq-eqb, ne_eqb}
-use Rattle.std.specs.List.{AllByRecursion as All}
+use Rattle.std.specs.List.{AllByRecursion}
 use Rattle.draft.specs.declared.parts.Parts.{Parts}
 use Rattle.service.specs.declared.frame.Frame.{Frame}
 use Rattle.model.proofs.Cells.{dec_both, with_at_other, with_at_same, with_cell_other, with_cell_same}
@@ -179,17 +179,17 @@ chain_release P st f k x xs e fl hp g = blocks_same (row P st [] g) (row P st' [
         ]
 
 -- what the ports hand over
-at_hop_none : (P : Parts) (p f k : ℕ) (xs : List Frame) → All (λ x. route P x.flow x.hop ≡ p) xs → (route P f k ≡ p → ⊥) → at_hop f k xs ≡ []
+at_hop_none : (P : Parts) (p f k : ℕ) (xs : List Frame) → AllByRecursion (λ x. route P x.flow x.hop ≡ p) xs → (route P f k ≡ p → ⊥) → at_hop f k xs ≡ []
 at_hop_none P p f k [] h n = refl
 at_hop_none P p f k (x ∷ xs) h n = at_hop_no f k x xs (λ a b. n (ap₂ (route P) (sym a) (sym b) ∙ h.0)) ∙ at_hop_none P p f k xs h.1 n
 
-gather_none : (P : Parts) (taken : ℕ → List Frame) → ((p : ℕ) → All (λ x. route P x.flow x.hop ≡ p) (taken p)) → (f k n : ℕ) → n ≤ route P f k
+gather_none : (P : Parts) (taken : ℕ → List Frame) → ((p : ℕ) → AllByRecursion (λ x. route P x.flow x.hop ≡ p) (taken p)) → (f k n : ℕ) → n ≤ route P f k
     → at_hop f k (gather n taken) ≡ []
 gather_none P taken h f k zero l = refl
 gather_none P taken h f k (suc n) l = filter-append _ (gather n taken) (taken n)
     ∙ ap₂ (λ a b. a ++ b) (gather_none P taken h f k n (omega arith)) (at_hop_none P n f k (taken n) (h n) (λ e. omega arith))
 
-gather_at_hop : (P : Parts) (taken : ℕ → List Frame) → ((p : ℕ) → All (λ x. route P x.flow x.hop ≡ p) (taken p)) → (f k n : ℕ) → route P f k < n
+gather_at_hop : (P : Parts) (taken : ℕ → List Frame) → ((p : ℕ) → AllByRecursion (λ x. route P x.flow x.hop ≡ p) (taken p)) → (f k n : ℕ) → route P f k < n
     → at_hop f k (gather n taken) ≡ at_hop f k (taken (route P f k))
 gather_at_hop P taken h f k zero l = absurd (omega arith)
 gather_at_hop P taken h f k (suc n) l = filter-append _ (gather n taken) (taken n) ∙
@@ -199,12 +199,12 @@ gather_at_hop P taken h f k (suc n) l = filter-append _ (gather n taken) (taken 
     ]
 
 pub chain_take : (P : Parts) (st : State) (taken rest : ℕ → List Frame) → ((p : ℕ) → st.line p ≡ taken p ++ rest p)
-    → ((p : ℕ) → All (λ x. route P x.flow x.hop ≡ p) (st.line p)) → (f : ℕ) →
+    → ((p : ℕ) → AllByRecursion (λ x. route P x.flow x.hop ≡ p) (st.line p)) → (f : ℕ) →
     ((k : ℕ) → k < hops_of P f → route P f k < P.size.ports) → chain P st [] f ≡ chain P (risen P rest st) (tray P taken) f
 chain_take P st taken rest split here f inn = blocks_same (row P st [] f) (row P (risen P rest st) (tray P taken) f) (hops_of P f) each
   where
-    here' : (p : ℕ) → All (λ x. route P x.flow x.hop ≡ p) (taken p)
-    here' p = all_front _ (taken p) (rest p) (subst (All (λ x. route P x.flow x.hop ≡ p)) (split p) (here p))
+    here' : (p : ℕ) → AllByRecursion (λ x. route P x.flow x.hop ≡ p) (taken p)
+    here' p = all_front _ (taken p) (rest p) (subst (AllByRecursion (λ x. route P x.flow x.hop ≡ p)) (split p) (here p))
 
     each : (j : ℕ) → j < hops_of P f → row P st [] f j ≡ row P (risen P rest st) (tray P taken) f j
     each j l =
@@ -244,7 +244,7 @@ delivered_push P f (d ∷ es) e = ap (λ l. delivered_by P f d ++ l) (delivered_
     ∙ sym (append_assoc (delivered_by P f d) (delivered P f es) (delivered_by P f e))
 
 -- a flow's frames in a line are those at the hop that is there
-pub flow_at_hop : (P : Parts) (f k p : ℕ) (xs : List Frame) → All (λ x. x.flow ≡ f → x.hop ≡ k) xs → of_flow f xs ≡ at_hop f k xs
+pub flow_at_hop : (P : Parts) (f k p : ℕ) (xs : List Frame) → AllByRecursion (λ x. x.flow ≡ f → x.hop ≡ k) xs → of_flow f xs ≡ at_hop f k xs
 flow_at_hop P f k p [] h = refl
 flow_at_hop P f k p (x ∷ xs) h =
     elim (ℕ_discrete x.flow f) [

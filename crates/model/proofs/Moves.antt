@@ -6,7 +6,7 @@ use Rattle.std.proofs.ByRecursion.{All-push, All-weaker}
 use Rattle.std.proofs.lemmas.List.{get_or_past, get_or-set_other, get_or-set_same, length-set, map-append}
 use Rattle.std.proofs.lemmas.Bool.{lt-ltb}
 use Rattle.std.proofs.lemmas.Bool.Decides.{nat_tests}
-use Rattle.std.specs.List.{AllByRecursion as All}
+use Rattle.std.specs.List.{AllByRecursion}
 use Rattle.draft.specs.Plans.{flow_at, port_at}
 use Rattle.draft.specs.declared.parts.Parts.{Parts}
 use Rattle.draft.specs.declared.table.Table.{Table}
@@ -46,7 +46,7 @@ no_front (x ∷ xs) ys e = nil_cons x (xs ++ ys) e
 name_for : List Traced → ℕ
 name_for xs = total (λ y. y.name + 1) xs
 
-names_below : (f : ℕ) (b : ℕ) (xs : List Traced) → name_for xs ≤ b → All (λ y. y.flow ≡ f → y.name < b) xs
+names_below : (f : ℕ) (b : ℕ) (xs : List Traced) → name_for xs ≤ b → AllByRecursion (λ y. y.flow ≡ f → y.name < b) xs
 unfolding name_for
 names_below f b [] h = tt
 names_below f b (x ∷ xs) h = ((λ e. omega arith), names_below f b xs (omega arith))
@@ -74,7 +74,7 @@ module _ (P : Parts) (t : Table) (kept : Kept P) (ok : Accepted P t) where
     level = λ f k g. sym (ap (λ (b : Bool). cond b (flow_at P f).burst 0) g);
     loose = λ f k h. refl;
     sized = tt;
-    prompt = λ p. subst (λ (q : Port). All (λ x. 0 ≤ x.due) q.line) (sym (idle_at P.size.ports p)) tt;
+    prompt = λ p. subst (λ (q : Port). AllByRecursion (λ x. 0 ≤ x.due) q.line) (sym (idle_at P.size.ports p)) tt;
   }
 
   pub offer_shows : (st : State) (w : World) → Shows P t st (pend st.waiting []) w → (f n : ℕ) → Told P st f n
@@ -124,7 +124,7 @@ module _ (P : Parts) (t : Table) (kept : Kept P) (ok : Accepted P t) where
 
       some : 0 < length x.past
       some = (all_mid (Loose (system_of P t) w.now) us x vs
-          (subst (All (Loose (system_of P t) w.now)) e (inv_of P t kept ok st (pend st.waiting []) w sh).held)).some
+          (subst (AllByRecursion (Loose (system_of P t) w.now)) e (inv_of P t kept ok st (pend st.waiting []) w sh).held)).some
 
       made : length x.past ≡ suc k
       made = omega (arith, some)
@@ -133,7 +133,7 @@ module _ (P : Parts) (t : Table) (kept : Kept P) (ok : Accepted P t) where
       shown = ap (λ l. map erase (loose_at x.flow (suc k) l)) (sym e) ∙ sh.loose x.flow k (omega (arith, made)) ∙ append-nil (st.waiting x.flow (suc k))
 
       go : (ws : List Frame) → st.waiting x.flow (suc k) ≡ ws → Stuck P st x.flow (suc k) ws
-          → (bucketed P x.flow (length x.past) ≡ true) × (All (Apart x) us → w.level x.flow (length x.past) < x.len)
+          → (bucketed P x.flow (length x.past) ≡ true) × (AllByRecursion (Apart x) us → w.level x.flow (length x.past) < x.len)
       go [] q s = absurd (some_there us x vs
           (none (loose_at x.flow (length x.past) (us ++ x ∷ vs)) (ap (λ n. map erase (loose_at x.flow n (us ++ x ∷ vs))) made ∙ shown ∙ q)))
         where
@@ -167,7 +167,7 @@ module _ (P : Parts) (t : Table) (kept : Kept P) (ok : Accepted P t) where
     extras : map erase extra ≡ gather n taken
 
   handing : (w : World) (s : ℕ) (taken rest : ℕ → List Frame) → w.now ≡ s + 1 → ((p : ℕ) → map erase (line_at w.ports p) ≡ taken p ++ rest p)
-      → ((p : ℕ) → All (λ x. x.entry + (port_at P p).stay ≤ s) (taken p)) →
+      → ((p : ℕ) → AllByRecursion (λ x. x.entry + (port_at P p).stay ≤ s) (taken p)) →
       (n : ℕ) → n ≤ length w.ports → Handing w n taken rest
   handing w s taken rest nw lines stay zero h =
       record {
@@ -223,10 +223,10 @@ module _ (P : Parts) (t : Table) (kept : Kept P) (ok : Accepted P t) where
             extras = map-append erase r.extra d.front ∙ ap₂ (λ a b. a ++ b) r.extras d.fronts;
           }
             where
-              stays : All (λ x. entry x + min (port_at P n).stay (delay P t n) + 1 ≤ r.web.now) d.front
+              stays : AllByRecursion (λ x. entry x + min (port_at P n).stay (delay P t n) + 1 ≤ r.web.now) d.front
               stays = All-weaker _ _ (λ x a. omega (arith, a, r.now, nw)) d.front
                   (all_unmap (λ x. x.entry + (port_at P n).stay ≤ s) erase d.front
-                  (subst (All (λ x. x.entry + (port_at P n).stay ≤ s)) (sym d.fronts) (stay n)))
+                  (subst (AllByRecursion (λ x. x.entry + (port_at P n).stay ≤ s)) (sym d.fronts) (stay n)))
 
   pub turn : (st : State) (w : World) → Shows P t st (pend st.waiting []) w → Settled P st → (taken rest : ℕ → List Frame)
       → st.slot < 1000000000000 → Handed P st taken rest →
@@ -244,10 +244,10 @@ module _ (P : Parts) (t : Table) (kept : Kept P) (ok : Accepted P t) where
       loose = λ f k h. ap (λ l. map erase (loose_at f (suc k) l)) r.loose ∙ ap (map erase) (filter-append _ w.loose r.extra)
           ∙ map-append erase (loose_at f (suc k) w.loose) (loose_at f (suc k) r.extra)
           ∙ ap₂ (λ a b. a ++ b) (sh.loose f k h ∙ append-nil (st.waiting f (suc k))) (loose_erase f k r.extra old ∙ ap (at_hop f k) (trays r.extras));
-      sized = subst (All (λ y. in_size P y.flow y.len ≡ true)) (sym r.same) sh.sized;
+      sized = subst (AllByRecursion (λ y. in_size P y.flow y.len ≡ true)) (sym r.same) sh.sized;
       prompt = λ p. All-weaker _ _ (λ x a. omega (arith, a, r.now, sh.slot)) (line_at r.web.ports p)
           (all_unmap (λ x. st.slot < x.due) erase (line_at r.web.ports p)
-          (subst (All (λ x. st.slot < x.due)) (sym (lines p)) (hd.kept p)));
+          (subst (AllByRecursion (λ x. st.slot < x.due)) (sym (lines p)) (hd.kept p)));
     },
   )
     where
@@ -266,9 +266,9 @@ module _ (P : Parts) (t : Table) (kept : Kept P) (ok : Accepted P t) where
       run' : Reaches (system_of P t) (empty (system_of P t)) r.web
       run' = run_after (system_of P t) (empty (system_of P t)) w₁ r.web (Reaches.then sh.run (Step.ticks sh.prompt (blocked st w sh settled))) r.run
 
-      old : All (λ x. 0 < length x.past) r.extra
+      old : AllByRecursion (λ x. 0 < length x.past) r.extra
       old = all_back _ w.loose r.extra
-          (subst (All (λ x. 0 < length x.past)) r.loose
+          (subst (AllByRecursion (λ x. 0 < length x.past)) r.loose
           (All-weaker _ _ (λ x a. a.some) r.web.loose (run_inv (system_of P t) (sound P t kept ok) r.web run').held))
 
       lines : (p : ℕ) → map erase (line_at r.web.ports p) ≡ rest p

@@ -1,7 +1,7 @@
 -- Frames with their history and without it, and the frames of a flow at a hop.
 use Rattle.std.proofs.Common.{◌≡◌, ℕ, suc, ◌+◌, ◌-◌, ◌<◌, Bool, true, false, cond, ◌&&◌, eqb, List, [], ◌∷◌, ◌++◌, map, length, get_or, filter, sym, refl, ap, ◌∙◌, subst, ap₂, arith}
 use Rattle.std.proofs.lemmas.List.Elements.{filter-append}
-use Rattle.std.specs.List.{AllByRecursion as All}
+use Rattle.std.specs.List.{AllByRecursion}
 use Rattle.service.specs.declared.frame.Frame.{Frame}
 use Rattle.calculus.specs.Systems.{Apart, Traced}
 use Rattle.calculus.specs.Windows.{total}
@@ -82,15 +82,15 @@ splits (x ∷ xs) (y ∷ ys) zs e = more (splits xs ys zs (same_tail (erase x) y
       backs = r.backs;
     }
 
-pub all_unmap : {X Y : Type 0} (A : Y → Type 0) (g : X → Y) (xs : List X) → All A (map g xs) → All (λ x. A (g x)) xs
+pub all_unmap : {X Y : Type 0} (A : Y → Type 0) (g : X → Y) (xs : List X) → AllByRecursion A (map g xs) → AllByRecursion (λ x. A (g x)) xs
 all_unmap A g [] h = tt
 all_unmap A g (x ∷ xs) h = (h.0, all_unmap A g xs h.1)
 
-pub all_front : {X : Type 0} (A : X → Type 0) (xs ys : List X) → All A (xs ++ ys) → All A xs
+pub all_front : {X : Type 0} (A : X → Type 0) (xs ys : List X) → AllByRecursion A (xs ++ ys) → AllByRecursion A xs
 all_front A [] ys h = tt
 all_front A (x ∷ xs) ys h = (h.0, all_front A xs ys h.1)
 
-pub all_back : {X : Type 0} (A : X → Type 0) (xs ys : List X) → All A (xs ++ ys) → All A ys
+pub all_back : {X : Type 0} (A : X → Type 0) (xs ys : List X) → AllByRecursion A (xs ++ ys) → AllByRecursion A ys
 all_back A [] ys h = h
 all_back A (x ∷ xs) ys h = all_back A xs ys h.1
 
@@ -112,7 +112,7 @@ pub loose_no : (f n : ℕ) (x : Traced) (xs : List Traced) → (x.flow ≡ f →
 loose_no f n x xs h = ap (λ (b : Bool). cond b (x ∷ loose_at f n xs) (loose_at f n xs)) (both_no x.flow f (length x.past) n h)
 
 -- the frames of a flow that have made k + 1 entries are those whose hop is k
-pub loose_erase : (f k : ℕ) (xs : List Traced) → All (λ x. 0 < length x.past) xs → map erase (loose_at f (suc k) xs) ≡ at_hop f k (map erase xs)
+pub loose_erase : (f k : ℕ) (xs : List Traced) → AllByRecursion (λ x. 0 < length x.past) xs → map erase (loose_at f (suc k) xs) ≡ at_hop f k (map erase xs)
 loose_erase f k [] h = refl
 loose_erase f k (x ∷ xs) h =
     elim (dec_both x.flow f (length x.past) (suc k)) [
@@ -127,7 +127,7 @@ pub record Found (f n : ℕ) (xs : List Traced) (y : Traced) (rest : List Traced
   pub us : List Traced
   pub vs : List Traced
   pub split : xs ≡ us ++ y ∷ vs
-  pub apart : All (Apart y) us
+  pub apart : AllByRecursion (Apart y) us
   pub flow : y.flow ≡ f
   pub made : length y.past ≡ n
   pub left : loose_at f n (us ++ vs) ≡ rest
@@ -173,7 +173,7 @@ find f n (x ∷ xs) y rest e = go (dec_both x.flow f (length x.past) n) (λ q. f
             cong g m false z = z
 
 -- a frame in a list is among its flow's at its count of entries; the first one stands first there
-pub among : (us : List Traced) (y : Traced) (vs : List Traced) (f n : ℕ) → y.flow ≡ f → length y.past ≡ n → All (Apart y) us
+pub among : (us : List Traced) (y : Traced) (vs : List Traced) (f n : ℕ) → y.flow ≡ f → length y.past ≡ n → AllByRecursion (Apart y) us
     → loose_at f n (us ++ y ∷ vs) ≡ y ∷ loose_at f n vs
 among [] y vs f n e q h = loose_yes f n y vs e q
 among (u ∷ us) y vs f n e q h = loose_no f n u (us ++ y ∷ vs) (λ a b. h.0 (e ∙ sym a) (q ∙ sym b)) ∙ among us y vs f n e q h.1

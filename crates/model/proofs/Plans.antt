@@ -3,7 +3,7 @@ use Rattle.std.proofs.Common.{◌≡◌, ℕ, zero, suc, ◌*◌, ◌<◌, ◌�
 use native.Mathlib.Decide.{dec_lt, ℕ_discrete}
 use Rattle.std.proofs.ByRecursion.{All-append, All-weaker}
 use Rattle.std.proofs.lemmas.Bool.{and_from, cond-false, cond-true, eq-eqb, le-ltb, lt-ltb, ne_eqb, not-false, not-true}
-use Rattle.std.specs.List.{AllByRecursion as All}
+use Rattle.std.specs.List.{AllByRecursion}
 use Rattle.refusal.proofs.Orders.{all_below_each}
 use Rattle.refusal.specs.Firsts.{all_below}
 use Rattle.draft.specs.Masks.{regulated}
@@ -119,16 +119,16 @@ pub users_in : (P : Parts) (f k : ℕ) → k < hops_of P f → In (leg f k) (use
 users_in P f k h =
     users_below_in P (route P f k) P.size.flows f k (real_flow P f k h) (omega (arith, hops_known P f (real_flow P f k h))) refl
 
-legs_real : (w : Flow) (f p n : ℕ) → All (λ c. (c.flow ≡ f) × (c.hop < n)) (legs w f p n)
+legs_real : (w : Flow) (f p n : ℕ) → AllByRecursion (λ c. (c.flow ≡ f) × (c.hop < n)) (legs w f p n)
 legs_real w f p zero = tt
 legs_real w f p (suc n) =
     All-append _ (legs w f p n) _ (All-weaker _ _ (λ c h. (h.0, omega (arith, h.1))) (legs w f p n) (legs_real w f p n)) (one (eqb (hop_port w n) p))
   where
-    one : (b : Bool) → All (λ c. (c.flow ≡ f) × (c.hop < suc n)) (cond b (leg f n ∷ []) [])
+    one : (b : Bool) → AllByRecursion (λ c. (c.flow ≡ f) × (c.hop < suc n)) (cond b (leg f n ∷ []) [])
     one true = ((refl, omega arith), tt)
     one false = tt
 
-users_below_real : (P : Parts) (p n : ℕ) → All (λ c. (c.flow < n) × (c.hop < hops (flow_at P c.flow))) (users_below P p n)
+users_below_real : (P : Parts) (p n : ℕ) → AllByRecursion (λ c. (c.flow < n) × (c.hop < hops (flow_at P c.flow))) (users_below P p n)
 users_below_real P p zero = tt
 users_below_real P p (suc n) =
     All-append _ (users_below P p n) _
@@ -136,7 +136,7 @@ users_below_real P p (suc n) =
     (All-weaker _ _ (λ c h. (omega (arith, h.0), subst (λ g. c.hop < hops (flow_at P g)) (sym h.0) h.1))
     (legs (flow_at P n) n p (hops (flow_at P n))) (legs_real (flow_at P n) n p (hops (flow_at P n))))
 
-pub users_real : (P : Parts) (p : ℕ) → All (λ c. c.hop < hops_of P c.flow) (users P p)
+pub users_real : (P : Parts) (p : ℕ) → AllByRecursion (λ c. c.hop < hops_of P c.flow) (users P p)
 users_real P p =
     All-weaker _ _ (λ c h. omega (arith, hops_known P c.flow h.0, h.1)) (users P p) (users_below_real P p P.size.flows)
 

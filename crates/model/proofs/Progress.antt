@@ -5,7 +5,7 @@ use Rattle.std.proofs.ByRecursion.{All-push, All-weaker}
 use Rattle.std.proofs.lemmas.List.{get_or_past}
 use Rattle.std.proofs.lemmas.Bool.{leb-false, leb-true}
 use Rattle.std.proofs.lemmas.Bool.Decides.{nat_tests}
-use Rattle.std.specs.List.{AllByRecursion as All}
+use Rattle.std.specs.List.{AllByRecursion}
 use Rattle.rounding.proofs.Ceilings.{up_rises, up_shifts}
 use Rattle.rounding.specs.Quotients.{up}
 use Rattle.draft.specs.Plans.{flow_at, port_at}
@@ -24,9 +24,9 @@ use Rattle.model.specs.Runs.{Event, Run, accepts, asks, begun, ends, goes_on, re
 
 abbrev Rises : List Frame → Type 0
 Rises [] = Unit {0}
-Rises (x ∷ xs) = All (λ y. x.due ≤ y.due) xs × Rises xs
+Rises (x ∷ xs) = AllByRecursion (λ y. x.due ≤ y.due) xs × Rises xs
 
-rises_push : (xs : List Frame) (y : Frame) → Rises xs → All (λ x. x.due ≤ y.due) xs → Rises (xs ++ y ∷ [])
+rises_push : (xs : List Frame) (y : Frame) → Rises xs → AllByRecursion (λ x. x.due ≤ y.due) xs → Rises (xs ++ y ∷ [])
 rises_push [] y h k = (tt, tt)
 rises_push (x ∷ xs) y h k = (All-push (λ z. x.due ≤ z.due) xs y h.0 k.0, rises_push xs y h.1 k.1)
 
@@ -37,8 +37,8 @@ rises_back (x ∷ xs) ys h = rises_back xs ys h.1
 -- one port's line, with the port's finish
 record Fair (P : Parts) (p F : ℕ) (xs : List Frame) : Type 0 where
   rises : Rises xs
-  last : All (λ x. x.due ≤ up F (port_at P p).rate + (port_at P p).latency) xs
-  late : All (λ x. x.entry + (port_at P p).stay ≤ x.due) xs
+  last : AllByRecursion (λ x. x.due ≤ up F (port_at P p).rate + (port_at P p).latency) xs
+  late : AllByRecursion (λ x. x.entry + (port_at P p).stay ≤ x.due) xs
 
 abbrev Fairs : Parts → State → Type 0
 Fairs P st = (p : ℕ) → p < P.size.ports → Fair P p (st.finish p) (st.line p)
@@ -83,7 +83,7 @@ enter_fair P st x kept long h p inn =
         old : Fair P q (st.finish q) (st.line q)
         old = h q l
 
-        grown : All (λ y. y.due ≤ up F R + (port_at P q).latency) (st.line q)
+        grown : AllByRecursion (λ y. y.due ≤ up F R + (port_at P q).latency) (st.line q)
         grown = All-weaker _ _ (λ y a. omega (arith, a, up_rises (st.finish q) F R (omega arith))) (st.line q) old.last
 
 lets_long : (p c n F l s : ℕ) → (ltb p c && ((leb l s && leb s 100000) && (ltb n 32 && leb F 20000000000000000))) ≡ true → l ≤ s
@@ -165,8 +165,8 @@ module _ (P : Parts) (kept : Kept P) where
       cut : Fairs P s → Fairs P (risen P rest s)
       cut h p l = record {
         rises = rises_back (taken p) (rest p) (subst Rises (hd.split p) (h p l).rises);
-        last = all_back _ (taken p) (rest p) (subst (All (λ x. x.due ≤ up (s.finish p) (port_at P p).rate + (port_at P p).latency)) (hd.split p) (h p l).last);
-        late = all_back _ (taken p) (rest p) (subst (All (λ x. x.entry + (port_at P p).stay ≤ x.due)) (hd.split p) (h p l).late);
+        last = all_back _ (taken p) (rest p) (subst (AllByRecursion (λ x. x.due ≤ up (s.finish p) (port_at P p).rate + (port_at P p).latency)) (hd.split p) (h p l).last);
+        late = all_back _ (taken p) (rest p) (subst (AllByRecursion (λ x. x.entry + (port_at P p).stay ≤ x.due)) (hd.split p) (h p l).late);
       }
 
 parts : (s : ℕ) (xs : List Frame) → xs ≡ owed s xs ++ spare s xs
@@ -177,19 +177,19 @@ parts s (x ∷ xs) = go (leb x.due s) (parts s xs)
     go true ih = ap (λ l. x ∷ l) ih
     go false ih = refl
 
-owed_old : (s m : ℕ) (xs : List Frame) → All (λ x. x.entry + m ≤ x.due) xs → All (λ x. x.entry + m ≤ s) (owed s xs)
+owed_old : (s m : ℕ) (xs : List Frame) → AllByRecursion (λ x. x.entry + m ≤ x.due) xs → AllByRecursion (λ x. x.entry + m ≤ s) (owed s xs)
 owed_old s m [] h = tt
 owed_old s m (x ∷ xs) h = go (leb x.due s) refl (owed_old s m xs h.1)
   where
-    go : (b : Bool) → leb x.due s ≡ b → All (λ x. x.entry + m ≤ s) (owed s xs) → All (λ x. x.entry + m ≤ s) (cond b (x ∷ owed s xs) [])
+    go : (b : Bool) → leb x.due s ≡ b → AllByRecursion (λ x. x.entry + m ≤ s) (owed s xs) → AllByRecursion (λ x. x.entry + m ≤ s) (cond b (x ∷ owed s xs) [])
     go true e ih = (omega (arith, h.0, leb-true x.due s e), ih)
     go false e ih = tt
 
-spare_young : (s : ℕ) (xs : List Frame) → Rises xs → All (λ x. s < x.due) (spare s xs)
+spare_young : (s : ℕ) (xs : List Frame) → Rises xs → AllByRecursion (λ x. s < x.due) (spare s xs)
 spare_young s [] h = tt
 spare_young s (x ∷ xs) h = go (leb x.due s) refl (spare_young s xs h.1)
   where
-    go : (b : Bool) → leb x.due s ≡ b → All (λ x. s < x.due) (spare s xs) → All (λ x. s < x.due) (cond b (spare s xs) (x ∷ xs))
+    go : (b : Bool) → leb x.due s ≡ b → AllByRecursion (λ x. s < x.due) (spare s xs) → AllByRecursion (λ x. s < x.due) (cond b (spare s xs) (x ∷ xs))
     go true e ih = ih
     go false e ih = (leb-false x.due s e, All-weaker _ _ (λ y a. omega (arith, a, leb-false x.due s e)) xs h.0)
 
@@ -200,12 +200,12 @@ never_stuck P kept t ok es st r =
       stayed = λ p. elim (dec_lt p P.size.ports) [
         | yes l ↦ owed_old st.slot (port_at P p).stay (st.line p) (fair p l).late
         | no l ↦ subst
-            (λ xs. All (λ x. x.entry + (port_at P p).stay ≤ st.slot) (owed st.slot xs)) (sym (none p (omega arith))) tt
+            (λ xs. AllByRecursion (λ x. x.entry + (port_at P p).stay ≤ st.slot) (owed st.slot xs)) (sym (none p (omega arith))) tt
       ];
       kept = λ p. elim (dec_lt p P.size.ports) [
         | yes l ↦ spare_young st.slot (st.line p) (fair p l).rises
         | no l ↦ subst
-            (λ xs. All (λ x. st.slot < x.due) (spare st.slot xs)) (sym (none p (omega arith))) tt
+            (λ xs. AllByRecursion (λ x. st.slot < x.due) (spare st.slot xs)) (sym (none p (omega arith))) tt
       ];
     }
   where

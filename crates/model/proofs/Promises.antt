@@ -3,7 +3,7 @@ use Rattle.std.proofs.Common.{◌≡◌, ℕ, zero, suc, ◌+◌, ◌<◌, ◌�
 use native.Mathlib.Decide.{ℕ_discrete}
 use Rattle.std.proofs.ByRecursion.{All-append, All-map, All-weaker}
 use Rattle.std.proofs.lemmas.Bool.{eq-eqb, ne_eqb}
-use Rattle.std.specs.List.{AllByRecursion as All}
+use Rattle.std.specs.List.{AllByRecursion}
 use Rattle.draft.specs.declared.parts.Parts.{Parts}
 use Rattle.draft.specs.declared.table.Table.{Table}
 use Rattle.plan.specs.Limits.{Kept}
@@ -24,20 +24,20 @@ use Rattle.model.specs.Promises.{Promise, Promised}
 use Rattle.model.specs.Runs.{Event, Sent, delivered, inside, inside_to, of_flow, sent, told}
 
 -- what was accepted before the bound is not inside
-cut : (b q : ℕ) (ds is before after : List Sent) (x : Sent) → before ++ x ∷ after ≡ ds ++ is → All (λ y. b ≤ y.origin + q) is → x.origin + q < b
+cut : (b q : ℕ) (ds is before after : List Sent) (x : Sent) → before ++ x ∷ after ≡ ds ++ is → AllByRecursion (λ y. b ≤ y.origin + q) is → x.origin + q < b
     → (more : List Sent) × (ds ≡ before ++ x ∷ more)
-cut b q [] is before after x e h late = absurd (omega (arith, all_mid (λ y. b ≤ y.origin + q) before x after (subst (All (λ y. b ≤ y.origin + q)) (sym e) h)))
+cut b q [] is before after x e h late = absurd (omega (arith, all_mid (λ y. b ≤ y.origin + q) before x after (subst (AllByRecursion (λ y. b ≤ y.origin + q)) (sym e) h)))
 cut b q (d ∷ ds) is [] after x e h late = (ds, ap (λ z. z ∷ ds) (sym (same_head x d after (ds ++ is) e)))
 cut b q (d ∷ ds) is (y ∷ before) after x e h late = more (cut b q ds is before after x (same_tail y d (before ++ x ∷ after) (ds ++ is) e) h late)
   where
     more : (more : List Sent) × (ds ≡ before ++ x ∷ more) → (more : List Sent) × (d ∷ ds ≡ y ∷ before ++ x ∷ more)
     more (r, z) = (r, ap₂ (λ a l. a ∷ l) (sym (same_head y d (before ++ x ∷ after) (ds ++ is) e)) z)
 
-all_of_flow : (A : Frame → Type 0) (f : ℕ) (xs : List Frame) → All (λ x. x.flow ≡ f → A x) xs → All A (of_flow f xs)
+all_of_flow : (A : Frame → Type 0) (f : ℕ) (xs : List Frame) → AllByRecursion (λ x. x.flow ≡ f → A x) xs → AllByRecursion A (of_flow f xs)
 all_of_flow A f [] h = tt
 all_of_flow A f (x ∷ xs) h = elim (ℕ_discrete x.flow f) [
-  | yes e ↦ subst (All A) (ap (λ (b : Bool). cond b (x ∷ of_flow f xs) (of_flow f xs)) (sym (eq-eqb x.flow f e))) (h.0 e, all_of_flow A f xs h.1)
-  | no e ↦ subst (All A) (ap (λ (b : Bool). cond b (x ∷ of_flow f xs) (of_flow f xs)) (sym (ne_eqb x.flow f e))) (all_of_flow A f xs h.1)
+  | yes e ↦ subst (AllByRecursion A) (ap (λ (b : Bool). cond b (x ∷ of_flow f xs) (of_flow f xs)) (sym (eq-eqb x.flow f e))) (h.0 e, all_of_flow A f xs h.1)
+  | no e ↦ subst (AllByRecursion A) (ap (λ (b : Bool). cond b (x ∷ of_flow f xs) (of_flow f xs)) (sym (ne_eqb x.flow f e))) (all_of_flow A f xs h.1)
 ]
 
 module _ (P : Parts) (t : Table) (kept : Kept P) (ok : Accepted P t) where
@@ -56,7 +56,7 @@ module _ (P : Parts) (t : Table) (kept : Kept P) (ok : Accepted P t) where
     order = order;
   }
     where
-      facts : (p : ℕ) → All (Fact P t st p) (st.line p)
+      facts : (p : ℕ) → AllByRecursion (Fact P t st p) (st.line p)
       facts = line_facts P t kept ok st (pend st.waiting []) c.world c.shows
 
       order : (f : ℕ) → f < P.size.flows → sent f es ≡ delivered P f es ++ map told (inside P st f)
@@ -67,14 +67,14 @@ module _ (P : Parts) (t : Table) (kept : Kept P) (ok : Accepted P t) where
           one : (k : ℕ) → k < hops_of P f → (x : Frame) → Fact P t st (route P f k) x → x.flow ≡ f → x.hop ≡ k
           one k l x a e = (fine P kept f h).apart x.hop k (subst (λ g. x.hop < hops_of P g) e a.along) l (ap (λ g. route P g x.hop) (sym e) ∙ a.here)
 
-      within : (f : ℕ) → f < P.size.flows → All (λ x. st.slot ≤ x.origin + flow_delay P t f) (inside P st f)
+      within : (f : ℕ) → f < P.size.flows → AllByRecursion (λ x. st.slot ≤ x.origin + flow_delay P t f) (inside P st f)
       within f h = go (hops_of P f) (omega arith)
         where
-          held : (k : ℕ) → k < hops_of P f → All (λ x. st.slot ≤ x.origin + flow_delay P t f) (st.waiting f k)
-          held zero l = subst (All (λ x. st.slot ≤ x.origin + flow_delay P t f)) (sym (c.dry f 0 (fine P kept f h).first)) tt
+          held : (k : ℕ) → k < hops_of P f → AllByRecursion (λ x. st.slot ≤ x.origin + flow_delay P t f) (st.waiting f k)
+          held zero l = subst (AllByRecursion (λ x. st.slot ≤ x.origin + flow_delay P t f)) (sym (c.dry f 0 (fine P kept f h).first)) tt
           held (suc k) l = waiting_facts P t kept ok st c.world c.shows f k l
 
-          go : (n : ℕ) → n ≤ hops_of P f → All (λ x. st.slot ≤ x.origin + flow_delay P t f) (inside_to P st f n)
+          go : (n : ℕ) → n ≤ hops_of P f → AllByRecursion (λ x. st.slot ≤ x.origin + flow_delay P t f) (inside_to P st f n)
           go zero l = tt
           go (suc k) l = All-append _ (of_flow f (st.line (route P f k))) (st.waiting f k ++ inside_to P st f k)
               (all_of_flow _ f (st.line (route P f k))

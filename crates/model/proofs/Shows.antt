@@ -4,7 +4,7 @@ use native.Mathlib.Decide.{ℕ_discrete}
 use Rattle.std.proofs.ByRecursion.{All-map}
 use Rattle.std.proofs.lemmas.List.{get_or_append_left, get_or_push, get_or-set_other, get_or-set_same, length-map, length_push, map-append}
 use Rattle.std.proofs.lemmas.Bool.Decides.{nat_tests}
-use Rattle.std.specs.List.{AllByRecursion as All}
+use Rattle.std.specs.List.{AllByRecursion}
 use Rattle.rounding.proofs.Ceilings.{up_covers}
 use Rattle.rounding.specs.Quotients.{up}
 use Rattle.draft.specs.Plans.{port_at}
@@ -36,8 +36,8 @@ pub record Shows (P : Parts) (t : Table) (st : State) (pending : ℕ → ℕ →
   pub line : (p : ℕ) → map erase (line_at w.ports p) ≡ st.line p
   pub level : (f k : ℕ) → levelled P f k ≡ true → w.level f k ≡ st.level f k
   pub loose : (f k : ℕ) → suc k < hops_of P f → map erase (loose_at f (suc k) w.loose) ≡ pending f (suc k)
-  pub sized : All (λ y. in_size P y.flow y.len ≡ true) w.taken
-  pub prompt : (p : ℕ) → All (λ x. w.now ≤ x.due) (line_at w.ports p)
+  pub sized : AllByRecursion (λ y. in_size P y.flow y.len ≡ true) w.taken
+  pub prompt : (p : ℕ) → AllByRecursion (λ x. w.now ≤ x.due) (line_at w.ports p)
 
 -- before a hop stand the frames at its regulator, and behind them those of the tray that come to it
 abbrev pub pend : (ℕ → ℕ → List Frame) → List Frame → ℕ → ℕ → List Frame
@@ -91,8 +91,8 @@ module _ (P : Parts) (t : Table) (st : State) (w : World) (slot : w.now ≡ st.s
         | no z ↦ ap (map erase) (line_other w.ports q p _ z) ∙ lines p ∙ sym (with_at_other q (st.line q ++ stamped P st x ∷ []) st.line p z)
       ]
 
-  pub enter_prompt : 0 < (port_at P q).rate → ((p : ℕ) → All (λ x. w.now ≤ x.due) (line_at w.ports p)) → (p : ℕ)
-      → All (λ x. w.now ≤ x.due) (line_at (enter (system_of P t) q w.now y w.ports) p)
+  pub enter_prompt : 0 < (port_at P q).rate → ((p : ℕ) → AllByRecursion (λ x. w.now ≤ x.due) (line_at w.ports p)) → (p : ℕ)
+      → AllByRecursion (λ x. w.now ≤ x.due) (line_at (enter (system_of P t) q w.now y w.ports) p)
   enter_prompt pos h = all_enter (λ _ x. w.now ≤ x.due) w.ports h (system_of P t) q w.now y inn
       (omega (
         arith,
@@ -115,7 +115,7 @@ module _ (P : Parts) (t : Table) (kept : Kept P) (ok : Accepted P t) where
   inv_of st pending w sh = run_inv (system_of P t) (sound P t kept ok) w sh.run
 
   enter_one : (st : State) (pending : ℕ → ℕ → List Frame) (w : World) → Shows P t st pending w → (us : List Traced) (y : Traced) (vs : List Traced)
-      → w.loose ≡ us ++ y ∷ vs → All (Apart y) us → (k : ℕ) → length y.past ≡ suc k → suc k < hops_of P y.flow →
+      → w.loose ≡ us ++ y ∷ vs → AllByRecursion (Apart y) us → (k : ℕ) → length y.past ≡ suc k → suc k < hops_of P y.flow →
       (level' : ℕ → ℕ → ℕ) (waiting' pending' : ℕ → ℕ → List Frame) →
       (gated P y.flow (suc k) ≡ true → y.len ≤ st.level y.flow (suc k)) →
       (gated P y.flow (suc k) ≡ true → level' y.flow (suc k) ≡ st.level y.flow (suc k) - y.len) →
@@ -259,6 +259,6 @@ module _ (P : Parts) (t : Table) (kept : Kept P) (ok : Accepted P t) where
       there = sh.line q ∙ with_at_same q (st.line q ++ stamped P st x ∷ []) st.line
 
       size : Size P x.flow x.len
-      size = all_mid (λ y. Size P y.flow y.len) (st.line q) (stamped P st x) [] (subst (All (λ y. Size P y.flow y.len)) there
+      size = all_mid (λ y. Size P y.flow y.len) (st.line q) (stamped P st x) [] (subst (AllByRecursion (λ y. Size P y.flow y.len)) there
           (All-map (λ y. Size P y.flow y.len) erase (line_at w.ports q)
           ((all_sized P (system_of P t) w (run_inv (system_of P t) (sound P t kept ok) w sh.run) sh.sized).1 q)))

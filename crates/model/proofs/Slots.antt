@@ -4,7 +4,7 @@ use native.Mathlib.Decide.{ℕ_discrete}
 use Rattle.std.proofs.lemmas.List.Elements.{filter-append}
 use Rattle.std.proofs.lemmas.List.{length-append, length-map, map-append}
 use Rattle.std.proofs.lemmas.Bool.{cond-false, cond-true, le-ltb, leb-false, leb-true, lt-ltb}
-use Rattle.std.specs.List.{AllByRecursion as All}
+use Rattle.std.specs.List.{AllByRecursion}
 use Rattle.draft.specs.declared.parts.Parts.{Parts}
 use Rattle.draft.specs.declared.table.Table.{Table}
 use Rattle.plan.specs.Limits.{Kept}
@@ -30,7 +30,7 @@ pub record Mid (P : Parts) (t : Table) (sends : ℕ → List Sent) (st : State) 
   pub world : World
   pub shows : Shows P t st (pend st.waiting ts) world
   pub dry : (f k : ℕ) → gated P f k ≡ false → st.waiting f k ≡ []
-  pub fine : All (λ x. suc x.hop ≤ hops_of P x.flow) ts
+  pub fine : AllByRecursion (λ x. suc x.hop ≤ hops_of P x.flow) ts
   pub order : (f : ℕ) → sends f ≡ gone f ++ chain P st ts f
 
 -- the same theory state, with other waiting frames shown

@@ -1,6 +1,6 @@
 -- The network of a plan: what its state is, and what an offer and a slot end make of it.
 use Rattle.std.specs.Prelude.{◌≡◌, ℕ, zero, suc, ◌+◌, ◌-◌, ◌<◌, ◌≤◌, min, Bool, cond, ◌&&◌, List, [], ◌∷◌, ◌++◌, length, ◌==◌, nat_le, nat_lt}
-use Rattle.std.specs.List.{AllByRecursion as All}
+use Rattle.std.specs.List.{AllByRecursion}
 use Rattle.draft.specs.Masks.{regulated}
 use Rattle.draft.specs.Plans.{flow_at, hop_port, hops, port_at}
 use Rattle.draft.specs.declared.parts.Parts.{Parts}
@@ -171,8 +171,8 @@ risen P rest st =
 -- so that no frame that is left is due.
 pub record Handed (P : Parts) (st : State) (taken rest : ℕ → List Frame) : Type 0 where
   pub split : (p : ℕ) → st.line p ≡ taken p ++ rest p
-  pub stayed : (p : ℕ) → All (λ x. x.entry + (port_at P p).stay ≤ st.slot) (taken p)
-  pub kept : (p : ℕ) → All (λ x. st.slot < x.due) (rest p)
+  pub stayed : (p : ℕ) → AllByRecursion (λ x. x.entry + (port_at P p).stay ≤ st.slot) (taken p)
+  pub kept : (p : ℕ) → AllByRecursion (λ x. st.slot < x.due) (rest p)
 
 -- of a line, the frames that are due by the slot s, and the others
 abbrev pub owed : ℕ → List Frame → List Frame

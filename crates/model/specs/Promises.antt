@@ -1,6 +1,6 @@
 -- What an accepted table promises of every run.
 use Rattle.std.specs.Prelude.{◌≡◌, ℕ, ◌+◌, ◌<◌, ◌≤◌, List, ◌∷◌, ◌++◌, map}
-use Rattle.std.specs.List.{AllByRecursion as All}
+use Rattle.std.specs.List.{AllByRecursion}
 use Rattle.draft.specs.declared.parts.Parts.{Parts}
 use Rattle.draft.specs.declared.table.Table.{Table}
 use Rattle.plan.specs.Limits.{Kept}
@@ -15,14 +15,14 @@ use Rattle.model.specs.Runs.{Event, Run, Sent, accepted, asked, delivered, ended
 abbrev pub Timely : Parts → Table → Event → Type 0
 Timely P t (accepted f n s) = Unit {0}
 Timely P t (refused f n) = Unit {0}
-Timely P t (ended s frames lost) = All (λ x. s ≤ x.entry + delay P t (route P x.flow x.hop)) frames × (lost ≡ 0)
+Timely P t (ended s frames lost) = AllByRecursion (λ x. s ≤ x.entry + delay P t (route P x.flow x.hop)) frames × (lost ≡ 0)
 Timely P t unended = Unit {0}
 Timely P t asked = Unit {0}
 
 pub record Promise (P : Parts) (t : Table) (es : List Event) (st : State) : Type 0 where
   -- no frame stays at a port, or has stayed, beyond that port's quoted delay; and none was lost
-  pub stays : (p : ℕ) → p < P.size.ports → All (λ x. st.slot ≤ x.entry + delay P t p) (st.line p)
-  pub stayed : All (Timely P t) es
+  pub stays : (p : ℕ) → p < P.size.ports → AllByRecursion (λ x. st.slot ≤ x.entry + delay P t p) (st.line p)
+  pub stayed : AllByRecursion (Timely P t) es
   -- no port holds more than its quoted backlog
   pub backlogs : (p : ℕ) → p < P.size.ports → total (λ x. x.len) (st.line p) ≤ backlog P t p
   -- a frame is delivered, in its place among its flow's, once the slot end in its origin slot + the quoted delay is carried out
