@@ -4,7 +4,7 @@ set -eu
 cd "$(dirname "$0")/../.."
 slots=${1:-2000000}
 mkdir -p target
-(cd crates/load && rt run) > target/load.out 2>&1 || { cat target/load.out; exit 1; }
+(cd crates/load && rt run -- 1 latest) > target/load.out 2>&1 || { cat target/load.out; exit 1; }
 load=crates/load/out/load
 rustc --edition 2021 -C opt-level=3 -C panic=abort -o target/cabinets benchmarks/cabinets/main.rs
 cmp <("$load" "$slots" latest gathering prompt) <(target/cabinets "$slots" latest gathering prompt)
