@@ -211,7 +211,7 @@ module _ (S : System) (sound : Sound S) (st : World) (inv : Inv S st) where
       own : x.len ≤ came st (leg f j) t (t + 0)
       own = omega (arith, sums (crossing (leg f j) t (t + 0)), mine t (t + 0) (omega arith) (omega arith))
 
-      -- each other frame of the flow that has port_with the hop came before
+      -- each other frame of the flow that has entered the hop came before
       before : (y : Traced) → Ways S y.flow y.past → (f ≡ y.flow → 2 * length x.past + 1 < 2 * length y.past + 1 → Ahead y x)
           → f ≡ y.flow → k + 1 < length y.past → (get_or y.past (k + 1) 0 ≤ get_or y.past j 0 + X) × (get_or y.past j 0 ≤ t)
       before y w a s l = ((subst (λ h. Ways S h y.past) (sym s) w k l).far, (a s (omega arith)).sooner j (omega (arith, j_le)))

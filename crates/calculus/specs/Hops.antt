@@ -16,7 +16,7 @@ Widening W = (u v w : ℕ) → v ≤ w → W u v ≤ W u w
 abbrev pub Widens : Type 0
 Widens = (curve : ℕ → ℕ) (m D : ℕ) (W W' : ℕ → ℕ → ℕ) → m ≤ D → Widening W → Later m D W W' → Conforms W curve → Conforms W' (λ n. curve (n + (D - m)))
 
--- bits that all port_with within the last D slots are no more than the curve has at D
+-- bits that all entered within the last D slots are no more than the curve has at D
 abbrev pub Holds : Type 0
 Holds = (curve : ℕ → ℕ) (D s bits : ℕ) (W : ℕ → ℕ → ℕ) → bits ≤ W (s - D) (s - D + D) → Conforms W curve → bits ≤ curve D
 

@@ -3,7 +3,7 @@ use Rattle.std.specs.Prelude.{ℕ, ◌+◌, ◌*◌, ◌<◌, ◌≤◌, max}
 use Rattle.rounding.specs.Quotients.{up}
 use Rattle.calculus.specs.Windows.{Conforms, affine}
 
--- the finish once l bits more have port_with in the slot s
+-- the finish once l bits more have entered in the slot s
 abbrev pub finish_of : ℕ → ℕ → ℕ → ℕ → ℕ
 finish_of rate finish s l = max finish (s * rate) + l
 

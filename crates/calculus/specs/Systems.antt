@@ -11,7 +11,7 @@ pub record Traced : Type 0 where
   -- frames of a flow are named in the order in which they were accepted
   pub name : ℕ
   pub len : ℕ
-  -- the slots in which it port_with its ports, the first one first
+  -- the slots in which it entered its ports, the first one first
   pub past : List ℕ
   -- the slot with whose end it has left the port that it is in
   pub due : ℕ
@@ -98,11 +98,11 @@ idle = record { finish = 0; line = [] }
 abbrev pub line_at : List Port → ℕ → List Traced
 line_at ports p = (get_or ports p idle).line
 
--- the slot in which a frame port_with its port
+-- the slot in which a frame entered its port
 abbrev pub entry : Traced → ℕ
 entry x = slice_index x.past (length x.past - 1)
 
--- the bits of a frame of length l that port_with its hop k in the slots u..v
+-- the bits of a frame of length l that entered its hop k in the slots u..v
 unfoldable pub visit : ℕ → ℕ → ℕ → List ℕ → ℕ → ℕ
 visit k u v past l = cond (nat_lt k (length past)) (hit u v (slice_index past k) l) 0
 
@@ -121,11 +121,11 @@ sum_of ports loose g = total g loose + total (λ p. total g p.line) ports
 abbrev pub Everywhere : (Traced → Type 0) → List Port → List Traced → Type 0
 Everywhere Q ports loose = AllByRecursion Q loose × ((p : ℕ) → AllByRecursion Q (line_at ports p))
 
--- the bits of a flow that port_with a hop in the slots u..v
+-- the bits of a flow that entered a hop in the slots u..v
 abbrev pub came : World → Leg → ℕ → ℕ → ℕ
 came w c u v = sum_of w.ports w.loose (crossing c u v)
 
--- the bits that port_with a port in the slots u..v
+-- the bits that entered a port in the slots u..v
 abbrev pub arrived : System → World → ℕ → ℕ → ℕ → ℕ
 arrived S w p u v = total (λ c. came w c u v) (S.users p)
 
@@ -144,7 +144,7 @@ enter S q s x ports = slice_set ports q (port_with S q s x (slice_index_or ports
 abbrev pub popped : ℕ → List Traced → List Port → List Port
 popped p rest ports = slice_set ports p (record { finish = (get_or ports p idle).finish; line = rest })
 
--- a frame that has port_with nothing yet
+-- a frame that has entered nothing yet
 abbrev pub bare : ℕ → ℕ → ℕ → Traced
 bare f name len = record { flow = f; name = name; len = len; past = []; due = 0 }
 
@@ -152,7 +152,7 @@ bare f name len = record { flow = f; name = name; len = len; past = []; due = 0 
 abbrev pub spent : ℕ → ℕ → ℕ → (ℕ → ℕ → ℕ) → ℕ → ℕ → ℕ
 spent f k l level g j = cond (f == g && k == j) (level g j - l) (level g j)
 
--- the levels once a frame has port_with its next hop
+-- the levels once a frame has entered its next hop
 abbrev pub paid : System → Traced → (ℕ → ℕ → ℕ) → ℕ → ℕ → ℕ
 paid S x level = cond (S.regulated x.flow (length x.past)) (spent x.flow (length x.past) x.len level) level
 

@@ -10,7 +10,7 @@ total g (x ∷ xs) = g x + total g xs
 unfoldable pub hit : ℕ → ℕ → ℕ → ℕ → ℕ
 hit u v s l = cond (nat_le u s && nat_le s v) l 0
 
--- A count of windows W tells the bits W u v that port_with in the slots u..v. It conforms to an arrival curve
+-- A count of windows W tells the bits W u v that entered in the slots u..v. It conforms to an arrival curve
 -- if no window of n + 1 slots holds more than the curve has at n.
 abbrev pub Conforms : (ℕ → ℕ → ℕ) → (ℕ → ℕ) → Type 0
 Conforms W curve = (u n : ℕ) → W u (u + n) ≤ curve n
@@ -19,7 +19,7 @@ Conforms W curve = (u n : ℕ) → W u (u + n) ≤ curve n
 abbrev pub affine : ℕ → ℕ → ℕ → ℕ
 affine burst rate n = burst + rate * n
 
--- nothing has port_with past the slot s
+-- nothing has entered past the slot s
 pub record Until (s : ℕ) (W : ℕ → ℕ → ℕ) : Type 0 where
   pub ends : (u v : ℕ) → W u v ≤ W u s
   pub next : (u : ℕ) → W u s ≤ W u (s + 1)

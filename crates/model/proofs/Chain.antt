@@ -156,7 +156,7 @@ chain_out P st x ts last f =
           ∙ ap (λ l. map told l ++ chain P st ts f) (sym (at_hop_no f (hops_of P f - 1) x [] (λ a _. e a)))
     ]
 
--- a regulator lets_in its first frame out
+-- a regulator lets its first frame out
 pub chain_release : (P : Parts) (st : State) (f k : ℕ) (x : Frame) (xs : List Frame) → st.waiting f k ≡ x ∷ xs → x.flow ≡ f → suc x.hop ≡ k → (g : ℕ) →
     chain P st [] g ≡ chain P (placed P (wait f k xs (spend f k x.len st)) (next x)) [] g
 chain_release P st f k x xs e fl hp g = blocks_same (row P st [] g) (row P st' [] g) (hops_of P g) each

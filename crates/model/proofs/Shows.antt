@@ -223,7 +223,7 @@ module _ (P : Parts) (t : Table) (kept : Kept P) (ok : Accepted P t) where
                 | no z ↦ ap (map erase) (r.others g (suc j) (λ a b. z (a, b))) ∙ sh.loose g j h ∙ sym (others g (suc j) (λ a b. z (a, b)))
               ]
 
-  -- and the port lets_in it in
+  -- and the port lets it in
   pub let_in : (st : State) (pending : ℕ → ℕ → List Frame) (w : World) (x : Frame) → Shows P t (placed P st x) pending w
       → x.hop < hops_of P x.flow → lets_in P st (route P x.flow x.hop) x.len ≡ true
   let_in st pending w x sh room =
