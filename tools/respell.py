@@ -27,6 +27,7 @@ LOCAL = re.compile(r"\blet (%s)\b(?=\s*[:=])" % TOKEN.pattern)
 
 
 def spelled(name):
+    """The name as it is spelled today."""
     if name in NAMED:
         return NAMED[name]
     if name[0].isupper():
@@ -41,6 +42,7 @@ def antt_files():
 
 
 def gather():
+    """The names that the repository gives and that are spelled otherwise today, each with a file; and its fields."""
     names, fields = {}, set()
     for path in antt_files():
         for line in path.read_text().splitlines():
@@ -57,19 +59,19 @@ def gather():
     return names, fields
 
 
-def turned(text, names, fields, quotes):
+def turned(text, names, fields):
+    """The text with the names respelled, but for strings and what stands behind a dot and is neither a field nor a module's."""
     out, at = [], 0
     modules = {alias for alias in MODULE.findall(text) if alias != "goal"}
     for m in TOKEN.finditer(text):
         name = m.group(0)
         if name not in names:
             continue
-        before = text[max(0, m.start() - 1) : m.start()]
         line = text[text.rfind("\n", 0, m.start()) + 1 : m.start()]
-        module = re.search(r"(?<![\w.])(\w+)\.$", text[: m.start()])
-        if before == "." and name not in fields and not (module and module.group(1) in modules):
+        module = re.search(r"(?<![\w.])(\w+)\.$", line)
+        if line.endswith(".") and name not in fields and not (module and module.group(1) in modules):
             continue
-        if quotes and line.count('"') % 2 == 1:
+        if line.count('"') % 2 == 1:
             continue
         out += [text[at : m.start()], spelled(name)]
         at = m.end()
@@ -93,14 +95,14 @@ def main():
             wrong += 1
             print(f"falls together: {name} ({names[name]}) with {back.get(new) or new} ({taken.get(new)})", file=sys.stderr)
         back[new] = name
-    if wrong and "--anyway" not in sys.argv:
+    if wrong:
         return 1
     for path in antt_files():
         text = path.read_text()
-        path.write_text(turned(text, names, fields, True))
+        path.write_text(turned(text, names, fields))
     for path in sorted(pathlib.Path("crates").glob("*/src/**/*.rt")):
         text = path.read_text()
-        path.write_text(turned(text, names, fields, True))
+        path.write_text(turned(text, names, fields))
     return 0
 
 
