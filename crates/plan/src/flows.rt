@@ -4,6 +4,7 @@ ghost use Rattle.draft.specs.Plans.{hops, no_port};
 ghost use Rattle.refusal.specs.Firsts.{all_below, first_refusal};
 ghost use Rattle.plan.specs.Checks.{bit_fits, bucket_fits, flow_answer, frame_fits, mask_fits};
 ghost use Rattle.plan.specs.Limits.{regulators_of};
+ghost use Rattle.plan.specs.Rates.{Simples};
 
 use crate::fault::PlanFault;
 use crate::path::path_fits;
@@ -109,6 +110,7 @@ fn check_flow(parts: &Parts, f: usize, before: u32) -> Result<u32, PlanFault>
 pub(crate) fn check_flows(parts: &Parts) -> Result<(), PlanFault>
     ensures answer { result ≡ first_refusal (flow_answer parts.now) parts.now.size.flows }
     ensures few { OnOk result (parts.now.size.flows ≤ 64) }
+    ensures paths { OnOk result (Simples parts.now) }
 {
     let mut regulators = 0;
     for f in 0..parts.size.flows {

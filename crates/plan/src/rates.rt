@@ -62,11 +62,13 @@ pub(crate) fn rates(parts: &Parts) -> [u64; MOST_PORTS]
 
 // The first port whose own rate is passed by the rates through it.
 pub(crate) fn check_rates(parts: &Parts) -> Result<(), PlanFault>
-    requires { (parts.now.size.ports ≤ 32) × (parts.now.size.flows ≤ 64) }
+    requires size { (parts.now.size.ports ≤ 32) × (parts.now.size.flows ≤ 64) }
+    requires paths { Simples parts.now }
     ensures { result ≡ first_refusal (rates_answer parts.now) parts.now.size.ports }
 {
+    let sums = rates(parts);
     for p in 0..parts.size.ports {
-        if rates_through(parts, p) > u64::from(parts.ports[p].rate) {
+        if sums[p] > parts.ports[p].rate as u64 {
             return Err(PlanFault::Rates(p));
         }
     }

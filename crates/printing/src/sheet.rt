@@ -1,8 +1,9 @@
 // The sheet of a plan file: the quote's lines, or the line that says no.
-ghost use Rattle.std.specs.Prelude.{◌≡◌, ◌+◌, ◌<◌, ◌≤◌, length, IfOk, Ok, Err, MatchResult};
+ghost use Rattle.std.specs.Prelude.{◌≡◌, ◌+◌, ◌<◌, ◌≤◌, [], ◌∷◌, length, IfOk, Ok, Err, codes, MatchResult};
 ghost use Rattle.table.specs.Quotes.{least_answer, told};
+ghost use Rattle.printing.specs.Lines.{line};
 ghost use Rattle.printing.specs.Prints.{Printed, Room};
-ghost use Rattle.printing.specs.Sheets.{draft_quote, flow_line, kit_line, no_line, place_after, port_line, print_answer, quote_sheet, sheet_quote};
+ghost use Rattle.printing.specs.Sheets.{draft_quote, kit_line, no_line, place_after, print_answer, quote_sheet, sheet_quote};
 
 use crate::fault::SheetFault;
 use crate::text::{pair, triple};
@@ -59,28 +60,22 @@ fn kit_line(out: &mut Queue<u8>, quote: &Quote)
     );
 }
 
-fn port_line(out: &mut Queue<u8>, quote: &Quote, p: usize)
+fn port_line(out: &mut Queue<u8>, p: usize, delay: u64, backlog: u64)
     requires { (Room out.old 50) × (p < 32) }
     ensures owner { out.new.places.ghost_name ≡ out.old.places.ghost_name }
-    ensures after { Printed out.old (port_line quote.now.plan.parts quote.now.table p) out.new }
+    ensures after { Printed out.old (line (codes "PORT") (p ∷ delay ∷ backlog ∷ [])) out.new }
     ensures short { out.new.count ≤ out.old.count + 50 }
 {
-    triple(
-        out,
-        b"PORT",
-        p as u64,
-        quote.port_delay(p),
-        quote.port_backlog(p),
-    );
+    triple(out, b"PORT", p as u64, delay, backlog);
 }
 
-fn flow_line(out: &mut Queue<u8>, quote: &Quote, f: usize)
+fn flow_line(out: &mut Queue<u8>, f: usize, delay: u64)
     requires { (Room out.old 29) × (f < 64) }
     ensures owner { out.new.places.ghost_name ≡ out.old.places.ghost_name }
-    ensures after { Printed out.old (flow_line quote.now.plan.parts quote.now.table f) out.new }
+    ensures after { Printed out.old (line (codes "FLOW") (f ∷ delay ∷ [])) out.new }
     ensures short { out.new.count ≤ out.old.count + 29 }
 {
-    pair(out, b"FLOW", f as u64, quote.flow_delay(f));
+    pair(out, b"FLOW", f as u64, delay);
 }
 
 fn no_line(out: &mut Queue<u8>, refusal: Refusal)
@@ -100,11 +95,12 @@ fn lines(out: &mut Queue<u8>, quote: &Quote)
     ensures after { Printed out.old (quote_sheet (record { parts = quote.now.plan.parts; table = quote.now.table; rounds = quote.now.rounds })) out.new }
 {
     kit_line(out, quote);
+    let figures = quote.figures();
     for p in 0..quote.plan.parts.size.ports {
-        port_line(out, quote, p);
+        port_line(out, p, figures.delays[p], figures.backlogs[p]);
     }
     for f in 0..quote.plan.parts.size.flows {
-        flow_line(out, quote, f);
+        flow_line(out, f, figures.flows[f]);
     }
 }
 

@@ -6,5 +6,6 @@ pub mod Tables
 pub mod Scratch
 pub mod Finds
 pub mod Exact
+pub mod Crowding
 pub mod Rises
 pub mod Leasts

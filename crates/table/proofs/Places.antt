@@ -3,18 +3,6 @@ use Rattle.std.proofs.Common.{◌≡◌, ℕ, zero, suc, ◌+◌, ◌<◌, ◌�
 use native.Mathlib.Decide.{dec_lt, ℕ_discrete}
 use Rattle.std.proofs.lemmas.Bool.{eq-eqb, le-ltb, lt-ltb, ne_eqb}
 
--- v is added at place i alone
-pub add_at : (xs : List ℕ) (i v p : ℕ) → i < length xs → get_or (set xs i (get_or xs i 0 + v)) p 0 ≡ get_or xs p 0 + cond (eqb i p) v 0
-add_at xs i v p l = elim (ℕ_discrete p i) [
-  | yes q ↦ rw (q, get_or-set_same xs i (get_or xs i 0 + v) 0 l, eq-eqb i i refl)
-  | no q ↦ rw (get_or-set_other xs i p (get_or xs i 0 + v) 0 q, ne_eqb i p (λ e. q (sym e)), add-zero)
-]
-
-pub zeros : (n p : ℕ) → ◌≡◌ {A = ℕ} (get_or (replicate n 0) p 0) 0
-zeros zero p = refl
-zeros (suc n) zero = refl
-zeros (suc n) (suc p) = zeros n p
-
 same_test : (k i : ℕ) → (k ≡ i → ⊥) → ltb k i ≡ ltb k (i + 1)
 same_test k i q = elim (dec_lt k i) [
   | yes a ↦ lt-ltb k i a ∙ sym (lt-ltb k (i + 1) (omega arith))

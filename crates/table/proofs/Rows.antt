@@ -1,7 +1,7 @@
 -- Delays and gaps of ports, place by place.
 use Rattle.std.proofs.Common.{◌≡◌, ℕ, ◌+◌, ◌-◌, ◌*◌, ◌<◌, ◌≤◌, Bool, true, false, cond, ltb, length, get_or, refl, ap, ◌∙◌, le-mul_of_pos_right, arith}
 use Rattle.std.proofs.lemmas.List.FromFn.{get_or-map-range_with_len, length-map-range_with_len}
-use Rattle.std.proofs.lemmas.Bool.{lt-ltb}
+use Rattle.std.proofs.lemmas.Bool.{cond-false, le-ltb, lt-ltb}
 use Rattle.rounding.proofs.Ceilings.{up_least}
 use Rattle.rounding.specs.Quotients.{up}
 use Rattle.draft.specs.Plans.{port_at}
@@ -21,6 +21,12 @@ delays_at P t p h = get_or-map-range_with_len (delay P t) 0 32 p p 0 h (omega ar
 pub gaps_at : (P : Parts) (t : Table) (p : ℕ) → p < 32 → get_or (gaps P t) p 0 ≡ gap P t p
 unfolding gaps
 gaps_at P t p h = get_or-map-range_with_len (gap P t) 0 32 p p 0 h (omega arith)
+
+-- no gap past the plan's ports
+pub gaps_past : (P : Parts) (t : Table) (p : ℕ) → P.size.ports ≤ p → p < 32 → get_or (gaps P t) p 0 ≡ 0
+gaps_past P t p past h =
+    let e : delay P t p ≡ 0 = cond-false (ltb p P.size.ports) (delay_by (port_at P p) (load P t p)) 0 (le-ltb p P.size.ports past) in
+    gaps_at P t p h ∙ (omega arith)
 
 pub up_few : (a b : ℕ) → 1 ≤ b → up a b ≤ a
 up_few a b h = up_least a b a h (le-mul_of_pos_right a h)

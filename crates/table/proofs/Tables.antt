@@ -1,13 +1,13 @@
 -- Tables and answers made row by row.
-use Rattle.std.proofs.Common.{◌≡◌, ℕ, ◌<◌, cond, ltb, List, length, get_or, Ok, Err, Result, refl, ap, ◌∙◌, ⊎_elim, arith}
+use Rattle.std.proofs.Common.{◌≡◌, ℕ, ◌<◌, ◌≤◌, cond, ltb, List, length, get_or, Ok, Err, Result, refl, ap, ◌∙◌, ⊎_elim, arith}
 use Rattle.std.proofs.lemmas.List.FromFn.{fill_by_all, get_or-map-range_with_len, length-map-range_with_len}
-use Rattle.std.proofs.lemmas.Bool.{cases_lt, le-ltb}
-use Rattle.draft.specs.Plans.{hops, no_row, row_at}
+use Rattle.std.proofs.lemmas.Bool.{cases_lt, cond-false, cond-true, le-ltb, lt-ltb}
+use Rattle.draft.specs.Plans.{flow_at, hops, no_row, row_at}
 use Rattle.draft.specs.declared.flow.Flow.{Flow}
 use Rattle.draft.specs.declared.parts.Parts.{Parts}
 use Rattle.draft.specs.declared.table.Row.{Row}
 use Rattle.draft.specs.declared.table.Table.{Table}
-use Rattle.table.specs.Rounds.{gives, row_by, table_by, zero_row}
+use Rattle.table.specs.Rounds.{Shaped, Tidy, gives, row_by, table_by, zero_row}
 use Rattle.table.specs.declared.fault.TableFault.{TableFault}
 
 -- a table whose rows below n are as g says, and the others 0
@@ -47,6 +47,18 @@ row_all w g r n l e h =
     ap (λ (cs : List ℕ). record { cells = cs })
     (fill_by_all (λ k. cond (ltb k (hops w)) (g k) 0) r.cells 8 0 l (λ k lt. h k lt ∙ ap (λ (m : ℕ). cond (ltb k m) (g k) 0) e))
 
+pub used_cell : (w : Flow) (g : ℕ → ℕ) (k : ℕ) → hops w ≤ 8 → k < hops w → get_or (row_by w g).cells k 0 ≡ g k
+used_cell w g k few h = cell_of_row w g k (omega arith) ∙ cond-true (ltb k (hops w)) (g k) 0 (lt-ltb k (hops w) h)
+
+-- a row whose cells below n were written over one that was 0 past the path
+pub row_over : (w : Flow) (g : ℕ → ℕ) (o r : Row) (n : ℕ) → Tidy w o → length r.cells ≡ 8 → n ≡ hops w
+    → ((k : ℕ) → k < 8 → get_or r.cells k 0 ≡ cond (ltb k n) (g k) (get_or o.cells k 0)) → r ≡ row_by w g
+row_over w g o r n t l e h =
+    row_all w g r n l e (λ k lt. h k lt ∙ ⊎_elim
+    (λ b. rw (lt-ltb k n b))
+    (λ b. rw (le-ltb k n b) (t.1 k (omega arith) lt))
+    (cases_lt k n))
+
 -- rows whose used cells agree are the same
 pub row_same : (w : Flow) (g h : ℕ → ℕ) → ((k : ℕ) → k < hops w → g k ≡ h k) → row_by w g ≡ row_by w h
 row_same w g h e =
@@ -59,6 +71,18 @@ table_long : (P : Parts) (g : ℕ → Row) → length (table_by P g).rows ≡ 64
 unfolding table_by
 table_long P g = length-map-range_with_len (λ f. cond (ltb f P.size.flows) (g f) zero_row) 0 64
 
+pub used_row : (P : Parts) (g : ℕ → Row) (f : ℕ) → f < 64 → f < P.size.flows → row_at (table_by P g) f ≡ g f
+used_row P g f l h = row_of_table P g f l ∙ cond-true (ltb f P.size.flows) (g f) zero_row (lt-ltb f P.size.flows h)
+
+-- a table whose rows below n were written over one that was 0 past the flows
+pub table_over : (P : Parts) (g : ℕ → Row) (o t : Table) (n : ℕ) → Shaped P o → length t.rows ≡ 64 → n ≡ P.size.flows
+    → ((f : ℕ) → f < 64 → row_at t f ≡ cond (ltb f n) (g f) (row_at o f)) → t ≡ table_by P g
+table_over P g o t n s l e h =
+    table_all P g t n l e (λ f lt. h f lt ∙ ⊎_elim
+    (λ b. rw (lt-ltb f n b))
+    (λ b. rw (le-ltb f n b) (s.rest f (omega arith) lt))
+    (cases_lt f n))
+
 -- tables whose rows agree are the same
 pub table_same : (P : Parts) (g h : ℕ → Row) → ((f : ℕ) → f < P.size.flows → g f ≡ h f) → table_by P g ≡ table_by P h
 table_same P g h e =
@@ -66,3 +90,19 @@ table_same P g h e =
     (λ l. ap (λ (r : Row). cond (ltb f P.size.flows) r zero_row) (e f l))
     (λ l. rw (le-ltb f P.size.flows l))
     (cases_lt f P.size.flows))
+
+-- a table made row by row has its shape
+pub shaped_by : (P : Parts) (g : ℕ → ℕ → ℕ) → P.size.flows ≤ 64 → Shaped P (table_by P (λ f. row_by (flow_at P f) (g f)))
+shaped_by P g few =
+    let rows = λ (f : ℕ). row_by (flow_at P f) (g f) in
+    record {
+      rows = table_long P rows;
+      used = λ f lf.
+          let e : row_at (table_by P rows) f ≡ rows f = row_of_table P rows f (omega arith) ∙ cond-true (ltb f P.size.flows) (rows f) zero_row (lt-ltb f P.size.flows lf) in (
+            ap (λ (r : Row). length r.cells) e ∙ row_long (flow_at P f) (g f),
+            λ k lk l8.
+                ap (λ (r : Row). get_or r.cells k 0) e ∙ cell_of_row (flow_at P f) (g f) k l8
+                ∙ cond-false (ltb k (hops (flow_at P f))) (g f k) 0 (le-ltb k (hops (flow_at P f)) lk),
+          );
+      rest = λ f lf l. row_of_table P rows f l ∙ cond-false (ltb f P.size.flows) (rows f) zero_row (le-ltb f P.size.flows lf);
+    }

@@ -1,8 +1,8 @@
 -- What a loop over tests knows at each turn, where a test that fails is a fault of the table.
-use Rattle.std.proofs.Common.{◌≡◌, ℕ, ◌+◌, ◌<◌, Bool, true, false, Ok, Err, Result, sym, ap, ◌∙◌}
+use Rattle.std.proofs.Common.{◌≡◌, ℕ, zero, suc, ◌+◌, ◌<◌, Bool, true, false, Ok, Err, Result, sym, refl, ap, ◌∙◌, arith}
 use Rattle.std.proofs.lemmas.Bool.{cond-false, cond-true}
 use Rattle.refusal.proofs.Orders.{first_refusal_at, first_refusal_more}
-use Rattle.refusal.specs.Firsts.{first_refusal}
+use Rattle.refusal.specs.Firsts.{and_then, first_refusal}
 use Rattle.table.specs.Checks.{unless}
 use Rattle.table.specs.declared.fault.TableFault.{TableFault}
 
@@ -22,3 +22,9 @@ module _ (F : ℕ → Result (Unit {0}) TableFault) where
 
   pub rows_at : (n k : ℕ) (x : TableFault) → k < n → first_refusal F k ≡ Ok tt → Err x ≡ F k → Err x ≡ first_refusal F n
   rows_at n k x l h t = sym (first_refusal_at F n k x l h (sym t))
+
+-- the same tests refuse the same
+pub same_refusal : (F G : ℕ → Result (Unit {0}) TableFault) (n : ℕ) → ((k : ℕ) → k < n → F k ≡ G k) → first_refusal F n ≡ first_refusal G n
+same_refusal F G zero h = refl
+same_refusal F G (suc n) h =
+    ap (λ r. and_then r (F n)) (same_refusal F G n (λ k l. h k (omega arith))) ∙ ap (and_then (first_refusal G n)) (h n (omega arith))

@@ -8,6 +8,7 @@ use Rattle.draft.specs.declared.parts.Parts.{Parts}
 use Rattle.draft.specs.declared.port.Port.{Port}
 use Rattle.draft.specs.declared.table.Row.{Row}
 use Rattle.draft.specs.declared.table.Table.{Table}
+use Rattle.plan.specs.Limits.{rates_through}
 use Rattle.table.specs.Loads.{backlog, delays, gaps}
 use Rattle.table.specs.Paths.{need_by, stretch_by}
 use Rattle.table.specs.declared.fault.TableFault.{TableFault}
@@ -37,6 +38,10 @@ lows_in f w gs r = first_refusal (λ k. unless (reaches w gs r k) (Low (f * 8 + 
 abbrev pub lows_answer : Parts → Table → Result (Unit {0}) TableFault
 lows_answer P t = first_refusal (λ f. lows_in f (flow_at P f) (gaps P t) (row_at t f)) P.size.flows
 
+-- the first low cell by the gaps of the ports
+abbrev pub lows_by : Parts → List ℕ → Table → Result (Unit {0}) TableFault
+lows_by P gs t = first_refusal (λ f. lows_in f (flow_at P f) gs (row_at t f)) P.size.flows
+
 -- no more frames can wait at a port than its line holds
 abbrev pub line_fits : Port → ℕ → Bool
 line_fits q backlog = nat_le (backlog / q.shortest) 32
@@ -53,6 +58,14 @@ regulators_in f w ds = first_refusal (λ k. unless (regulator_fits w (stretch_by
 
 abbrev pub regulators_answer : Parts → Table → Result (Unit {0}) TableFault
 regulators_answer P t = first_refusal (λ f. regulators_in f (flow_at P f) (delays P t)) P.size.flows
+
+-- the first crowded port by the loads and delays of the ports, and the first crowded regulator by the delays
+abbrev pub lines_by : Parts → List ℕ → List ℕ → Result (Unit {0}) TableFault
+lines_by P bs ds =
+    first_refusal (λ p. unless (line_fits (port_at P p) (slice_index bs p + rates_through P p * slice_index ds p)) (Crowded p)) P.size.ports
+
+abbrev pub regulators_by : Parts → List ℕ → Result (Unit {0}) TableFault
+regulators_by P ds = first_refusal (λ f. regulators_in f (flow_at P f) ds) P.size.flows
 
 abbrev pub crowds_answer : Parts → Table → Result (Unit {0}) TableFault
 crowds_answer P t = and_then (lines_answer P t) (regulators_answer P t)

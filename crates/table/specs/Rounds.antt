@@ -1,5 +1,5 @@
 -- The rounds towards the least table.
-use Rattle.std.specs.Prelude.{ℕ, zero, suc, ◌+◌, ◌*◌, Bool, cond, List, [], ◌∷◌, map, Ok, Err, Result, nat_eq, nat_le, nat_lt, slice_index}
+use Rattle.std.specs.Prelude.{◌≡◌, ℕ, zero, suc, ◌+◌, ◌*◌, ◌<◌, ◌≤◌, Bool, cond, List, [], ◌∷◌, map, length, Ok, Err, Result, nat_eq, nat_le, nat_lt, slice_index}
 use Rattle.std.specs.List.{range_with_len}
 use Rattle.refusal.specs.Firsts.{all_below, first_refusal}
 use Rattle.draft.specs.Plans.{flow_at, hops, row_at}
@@ -12,8 +12,12 @@ use Rattle.table.specs.Loads.{gaps}
 use Rattle.table.specs.Paths.{need_after}
 use Rattle.table.specs.declared.fault.TableFault.{TableFault}
 use Rattle.table.specs.declared.fault.TableFault.TheVariants.{Climbs, Rounds}
-use Rattle.table.specs.declared.rounds.Made.{Made}
 use Rattle.table.specs.declared.search.Found.{Found}
+
+-- what a round makes, and whether the table before was the same
+pub record Made : Type 0 where
+  pub table : Table
+  pub still : Bool
 
 abbrev pub zero_row : Row
 zero_row = record { cells = 0 ∷ 0 ∷ 0 ∷ 0 ∷ 0 ∷ 0 ∷ 0 ∷ 0 ∷ [] }
@@ -25,6 +29,16 @@ row_by w g = record { cells = map (λ k. cond (nat_lt k (hops w)) (g k) 0) (rang
 -- a table whose rows are as g says, one a flow; a row past them is 0
 unfoldable pub table_by : Parts → (ℕ → Row) → Table
 table_by P g = record { rows = map (λ f. cond (nat_lt f P.size.flows) (g f) zero_row) (range_with_len 0 64) }
+
+-- a row of eight cells, 0 past the path
+abbrev pub Tidy : Flow → Row → Type 0
+Tidy w r = (length r.cells ≡ 8) × ((k : ℕ) → hops w ≤ k → k < 8 → slice_index r.cells k ≡ 0)
+
+-- a table of such rows, 0 past the flows
+pub record Shaped (P : Parts) (t : Table) : Type 0 where
+  pub rows : length t.rows ≡ 64
+  pub used : (f : ℕ) → f < P.size.flows → Tidy (flow_at P f) (row_at t f)
+  pub rest : (f : ℕ) → P.size.flows ≤ f → f < 64 → row_at t f ≡ zero_row
 
 -- each used cell at the flow's burst
 abbrev pub start_row : Flow → Row

@@ -1,15 +1,18 @@
 // The check of a table: no fault exactly where it is accepted, else the first.
 ghost use Rattle.std.specs.Prelude.{◌≡◌, ◌<◌};
+ghost use Rattle.refusal.specs.Firsts.{and_then};
 ghost use Rattle.table.specs.Accepts.{Judged};
-ghost use Rattle.table.specs.Checks.{cell_fits, cells_answer, cells_in, lows_answer, table_answer};
+ghost use Rattle.table.specs.Bounds.{Few};
+ghost use Rattle.table.specs.Checks.{cell_fits, cells_answer, cells_in, crowds_answer, lows_answer, lows_by, table_answer};
 ghost use Rattle.table.specs.Quotes.{Exactly, quote_answer, told};
 
-use crate::crowds::crowds;
+use crate::crowds::crowds_by;
 use crate::fault::TableFault;
-use crate::loads::{flow_of, gaps};
+use crate::loads::flow_of;
 use crate::paths::need_after;
 use crate::quotes::Quote;
-use draft::limits::{MOST_CELL, MOST_HOPS};
+use crate::reckons::reckon;
+use draft::limits::{MOST_CELL, MOST_HOPS, MOST_PORTS};
 use draft::{Flow, Proposal, Row, Table};
 use plan::Plan;
 
@@ -51,11 +54,11 @@ fn cells(plan: &Plan, table: &Table) -> Result<(), TableFault>
     Ok(())
 }
 
-// The first cell below its need.
-fn lows(plan: &Plan, table: &Table) -> Result<(), TableFault>
-    ensures { result ≡ lows_answer plan.now.parts table.now }
+// The first cell below its need, by the gaps of the ports.
+fn lows(plan: &Plan, table: &Table, gaps: &[u64; MOST_PORTS]) -> Result<(), TableFault>
+    requires { Few gaps.now }
+    ensures { result ≡ lows_by plan.now.parts gaps.now table.now }
 {
-    let gaps = gaps(plan, table);
     let mut answer = Ok(());
     'search: for f in 0..plan.parts.size.flows {
         let flow = flow_of(plan, f);
@@ -67,10 +70,21 @@ fn lows(plan: &Plan, table: &Table) -> Result<(), TableFault>
                 answer = Err(TableFault::Low(f * 8 + k));
                 break 'search;
             }
-            need = need_after(flow, &gaps, cell, k);
+            need = need_after(flow, gaps, cell, k);
         }
     }
     answer
+}
+
+// The first cell below its need, else the first crowded port or regulator, by figures reckoned once.
+fn needs(plan: &Plan, table: &Table) -> Result<(), TableFault>
+    ensures { result ≡ and_then (lows_answer plan.now.parts table.now) (crowds_answer plan.now.parts table.now) }
+{
+    let figures = reckon(plan, table);
+    match lows(plan, table, &figures.gaps) {
+        Err(low) => Err(low),
+        Ok(_) => crowds_by(plan, &figures),
+    }
 }
 
 // The first fault of the table.
@@ -78,8 +92,7 @@ fn first_fault(plan: &Plan, table: &Table) -> Result<(), TableFault>
     ensures { result ≡ table_answer plan.now.parts table.now }
 {
     cells(plan, table)?;
-    lows(plan, table)?;
-    crowds(plan, table)
+    needs(plan, table)
 }
 
 // The first fault of the table, and none exactly where it is accepted.

@@ -1,16 +1,15 @@
 // Whether a table crowds a port's line or a regulator.
 ghost use Rattle.std.specs.Prelude.{◌≡◌, ◌+◌, ◌*◌, ◌<◌, ◌≤◌};
-ghost use Rattle.draft.specs.Plans.{port_at};
-ghost use Rattle.plan.specs.Limits.{rates_through};
-ghost use Rattle.table.specs.Bounds.{Few, Routed, most_delay, most_load, most_stretch};
-ghost use Rattle.table.specs.Checks.{crowds_answer, line_fits, lines_answer, regulator_fits, regulators_answer, regulators_in};
-ghost use Rattle.table.specs.Loads.{delay_by};
+ghost use Rattle.table.specs.Bounds.{Few, Routed, Serves, most_delay, most_load, most_stretch};
+ghost use Rattle.table.specs.Checks.{crowds_answer, line_fits, lines_by, regulator_fits, regulators_by, regulators_in};
+ghost use Rattle.table.specs.Reckons.{Bounded, Reckons};
 
 use crate::fault::TableFault;
-use crate::loads::{backlog_by, delays, flow_of, loads, port_of};
+use crate::loads::{Reckoned, flow_of, port_of};
 use crate::paths::stretch_after;
+use crate::reckons::reckon;
 use draft::limits::{MOST_PORTS, MOST_REGULATED, MOST_WAITING};
-use draft::{Flow, Table};
+use draft::{Flow, Port, Table};
 use plan::Plan;
 
 // B + r × D of a port.
@@ -21,22 +20,24 @@ pub(crate) fn held(load: u64, rates: u64, delay: u64) -> u64
     load + rates * delay
 }
 
-// Whether no more frames can wait at port p than its line holds, by its B.
-fn line_fits(plan: &Plan, p: usize, sum: u64) -> bool
-    requires port { p < plan.now.parts.size.ports }
-    requires few { sum ≤ most_load }
-    ensures { result ≡ line_fits (port_at plan.now.parts p) (sum + rates_through plan.now.parts p * delay_by (port_at plan.now.parts p) sum) }
+// Whether no more frames can wait at a port than its line holds, by its B, r and D.
+fn line_fits(port: Port, load: u64, rates: u64, delay: u64) -> bool
+    requires kept { Serves port }
+    requires few { (load ≤ most_load) × ((rates ≤ 10000) × (delay ≤ most_delay)) }
+    ensures { result ≡ line_fits port (load + rates * delay) }
 {
-    backlog_by(plan, p, sum) / port_of(plan, p).shortest as u64 <= MOST_WAITING
+    held(load, rates, delay) / port.shortest as u64 <= MOST_WAITING
 }
 
 // The first port that may have more frames waiting than its line holds.
-fn lines(plan: &Plan, table: &Table) -> Result<(), TableFault>
-    ensures { result ≡ lines_answer plan.now.parts table.now }
+fn lines(plan: &Plan, figures: &Reckoned) -> Result<(), TableFault>
+    requires { Bounded figures.now }
+    ensures { result ≡ lines_by plan.now.parts figures.now.loads figures.now.delays }
 {
-    let sums = loads(plan, table);
+    let rates = plan.rates();
     for p in 0..plan.parts.size.ports {
-        if !line_fits(plan, p, sums[p]) {
+        let port = port_of(plan, p);
+        if !line_fits(port, figures.loads[p], rates[p], figures.delays[p]) {
             return Err(TableFault::Crowded(p));
         }
     }
@@ -62,6 +63,9 @@ fn regulators_in(f: usize, flow: &Flow, delays: &[u64; MOST_PORTS]) -> Result<()
     requires few { Few delays.now }
     ensures { result ≡ regulators_in f flow.now delays.now }
 {
+    if flow.mask.bits == 0 {
+        return Ok(());
+    }
     let mut stretch = 0;
     for k in 0..flow.path.hops as usize {
         if !regulator_fits(flow, stretch, k) {
@@ -73,12 +77,12 @@ fn regulators_in(f: usize, flow: &Flow, delays: &[u64; MOST_PORTS]) -> Result<()
 }
 
 // The first regulator that may have more frames waiting than it holds.
-fn regulators(plan: &Plan, table: &Table) -> Result<(), TableFault>
-    ensures { result ≡ regulators_answer plan.now.parts table.now }
+fn regulators(plan: &Plan, delays: &[u64; MOST_PORTS]) -> Result<(), TableFault>
+    requires { Few delays.now }
+    ensures { result ≡ regulators_by plan.now.parts delays.now }
 {
-    let delays = delays(plan, table);
     for f in 0..plan.parts.size.flows {
-        match regulators_in(f, flow_of(plan, f), &delays) {
+        match regulators_in(f, flow_of(plan, f), delays) {
             Err(fault) => return Err(fault),
             Ok(_) => {}
         }
@@ -86,10 +90,20 @@ fn regulators(plan: &Plan, table: &Table) -> Result<(), TableFault>
     Ok(())
 }
 
-// The first port, else the first regulator, that is crowded.
+// The first port, else the first regulator, that is crowded by what was reckoned of the ports.
+pub(crate) fn crowds_by(plan: &Plan, figures: &Reckoned) -> Result<(), TableFault>
+    requires { Bounded figures.now }
+    ensures { (t : Table) → Reckons plan.now.parts t figures.now → result ≡ crowds_answer plan.now.parts t }
+{
+    match lines(plan, figures) {
+        Err(fault) => Err(fault),
+        Ok(_) => regulators(plan, &figures.delays),
+    }
+}
+
+// The first port, else the first regulator, that a table crowds.
 pub(crate) fn crowds(plan: &Plan, table: &Table) -> Result<(), TableFault>
     ensures { result ≡ crowds_answer plan.now.parts table.now }
 {
-    lines(plan, table)?;
-    regulators(plan, table)
+    crowds_by(plan, &reckon(plan, table))
 }

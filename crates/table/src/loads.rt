@@ -2,9 +2,10 @@
 ghost use Rattle.std.specs.Prelude.{◌≡◌, ℕ, ◌+◌, ◌*◌, ◌<◌, ◌≤◌, slice_index};
 ghost use Rattle.draft.specs.Plans.{flow_at, hops, port_at};
 ghost use Rattle.plan.specs.Limits.{rates_through};
-ghost use Rattle.table.specs.Bounds.{Few, Routed, Serves, most_delay, most_load, most_row};
-ghost use Rattle.table.specs.Loads.{backlog, delay, delay_by, delays, gaps, load, load_in};
+ghost use Rattle.table.specs.Bounds.{Routed, Serves, most_delay, most_load, most_row};
+ghost use Rattle.table.specs.Loads.{backlog, delay, delay_by, load, load_in};
 
+use crate::reckons::reckon;
 use draft::limits::MOST_PORTS;
 use draft::{Flow, Port, Row, Table};
 use plan::Plan;
@@ -73,19 +74,6 @@ pub struct Reckoned {
     pub gaps: [u64; MOST_PORTS],
 }
 
-// D of each port, and 0 past the plan's ports.
-pub(crate) fn delays(plan: &Plan, table: &Table) -> [u64; MOST_PORTS]
-    ensures value { result ≡ delays plan.now.parts table.now }
-    ensures few { Few result }
-{
-    let sums = loads(plan, table);
-    let mut found = [0; MOST_PORTS];
-    for p in 0..plan.parts.size.ports {
-        found[p] = delay_by(port_of(plan, p), sums[p]);
-    }
-    found
-}
-
 // D of port p, and 0 for what is no port.
 pub(crate) fn delay(plan: &Plan, table: &Table, p: usize) -> u64
     ensures value { result ≡ delay plan.now.parts table.now p }
@@ -93,21 +81,7 @@ pub(crate) fn delay(plan: &Plan, table: &Table, p: usize) -> u64
     if p >= plan.parts.size.ports {
         return 0;
     }
-    delays(plan, table)[p]
-}
-
-// D - m of each port, and 0 where m exceeds D.
-pub(crate) fn gaps(plan: &Plan, table: &Table) -> [u64; MOST_PORTS]
-    ensures value { result ≡ gaps plan.now.parts table.now }
-    ensures few { Few result }
-{
-    let sums = loads(plan, table);
-    let mut found = [0; MOST_PORTS];
-    for p in 0..plan.parts.size.ports {
-        let port = port_of(plan, p);
-        found[p] = delay_by(port, sums[p]).saturating_sub(port.stay as u64);
-    }
-    found
+    reckon(plan, table).delays[p]
 }
 
 // r of a port: the rates that cross it, summed, with the limit they keep.

@@ -29,3 +29,16 @@ pub(crate) fn reckon(plan: &Plan, table: &Table) -> Reckoned
         gaps,
     }
 }
+
+// D - m of each port by its B, written over the gaps of the table before.
+pub(crate) fn set_gaps(plan: &Plan, loads: &[u64; MOST_PORTS], found: &mut [u64; MOST_PORTS])
+    requires few { (p : ℕ) → p < 32 → slice_index loads.now p ≤ most_load }
+    requires rest { (p : ℕ) → plan.now.parts.size.ports ≤ p → p < 32 → slice_index found.old p ≡ 0 }
+    ensures value { (t : Table) → Loaded plan.now.parts t loads.now → found.new ≡ gaps plan.now.parts t }
+    ensures few { Few found.new }
+{
+    for p in 0..plan.parts.size.ports {
+        let port = port_of(plan, p);
+        found[p] = delay_by(port, loads[p]).saturating_sub(port.stay as u64);
+    }
+}

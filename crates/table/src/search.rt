@@ -11,8 +11,9 @@ use crate::crowds::crowds;
 use crate::fault::TableFault;
 use crate::loads::flow_of;
 use crate::quotes::Quote;
+use crate::reckons::{reckon, set_gaps};
 use crate::rounds::{round, zeros};
-use draft::limits::{MOST_HOPS, MOST_ROUNDS, TABLE_CELLS};
+use draft::limits::{MOST_HOPS, MOST_PORTS, MOST_ROUNDS, TABLE_CELLS};
 use draft::{Flow, Row, Table};
 use plan::Plan;
 
@@ -53,8 +54,11 @@ fn find(plan: &Plan, allowed: u32) -> Found
     ensures sought { Sought plan.now.parts result.table result.rounds result.answer }
 {
     let mut table = start(plan);
+    let mut gaps = reckon(plan, &table).gaps;
     for done in 0..allowed {
-        match round(plan, table) {
+        let before = table;
+        let mut sums = [0; MOST_PORTS];
+        match round(plan, before, &gaps, &mut table, &mut sums) {
             Err(fault) => {
                 return Found {
                     table,
@@ -62,17 +66,17 @@ fn find(plan: &Plan, allowed: u32) -> Found
                     answer: Err(fault),
                 }
             }
-            Ok(made) => {
-                if made.still {
+            Ok(still) => {
+                if still {
                     return Found {
-                        table: made.table,
+                        table,
                         rounds: done + 1,
                         answer: Ok(()),
                     };
                 }
-                table = made.table;
             }
         }
+        set_gaps(plan, &sums, &mut gaps);
     }
     Found {
         table,

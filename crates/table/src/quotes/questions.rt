@@ -4,8 +4,9 @@ ghost use Rattle.table.specs.Loads.{backlog, delay};
 ghost use Rattle.table.specs.Paths.{flow_delay};
 
 use super::Quote;
-use crate::loads::{backlog, delay, delays, flow_of};
+use crate::loads::{backlog, delay, flow_of};
 use crate::paths::delay_along;
+use crate::reckons::reckon;
 
 impl Quote {
     // D of a port, and 0 for what is no port.
@@ -30,6 +31,6 @@ impl Quote {
             return 0;
         }
         let flow = flow_of(&self.plan, f);
-        delay_along(flow, &delays(&self.plan, &self.table)) + (flow.path.hops as u64 - 1)
+        delay_along(flow, &reckon(&self.plan, &self.table).delays) + (flow.path.hops as u64 - 1)
     }
 }

@@ -2,7 +2,7 @@ use Rattle.std.proofs.Common.{sym}
 use Rattle.refusal.proofs.Orders.{first_refusal_done, first_refusal_more, first_refusal_stop}
 use Rattle.std.proofs.lemmas.Result.{err_from_is_err_and}
 use Rattle.plan.specs.Checks.{flow_answer}
-use Rattle.plan.proofs.Keeps.{few_flows}
+use Rattle.plan.proofs.Keeps.{few_flows, simple_flows}
 use Rattle.plan.proofs.flows.check_flows.Goals as goal
 
 pub returns-in_err-regulators : goal.returns-in_err-regulators
@@ -12,6 +12,7 @@ returns-in_err-regulators c =
     rw (p.1, p.2) (record {
       answer = first_refusal_stop (flow_answer P) P.size.flows c.loop-f.f _ c.loop-f-test.true c.loop-f.invariant.0 (sym c.in_err-regulators.ensures);
       few = tt;
+      paths = tt;
     })
 
 pub loop-f-preserved : goal.loop-f-preserved
@@ -23,4 +24,4 @@ pub returns : goal.returns
 returns c =
     let P = c.args.parts.now in
     let e = first_refusal_done (flow_answer P) P.size.flows c.loop-f.f c.loop-f-test.false c.loop-f.auto.f-end c.loop-f.invariant.0 in
-    record { answer = e; few = few_flows P (sym e) }
+    record { answer = e; few = few_flows P (sym e); paths = simple_flows P (sym e) }

@@ -8,16 +8,16 @@ use Rattle.plan.specs.declared.fault.PlanFault.TheVariants.{Rates}
 use Rattle.plan.proofs.Keeps.{passes}
 use Rattle.plan.proofs.rates.check_rates.Goals as goal
 
-pub returns-then-rates_through-from : goal.returns-then-rates_through-from
-returns-then-rates_through-from c =
+pub returns-then-sums-p : goal.returns-then-sums-p
+returns-then-sums-p c =
     let P = c.args.parts.now in
     let p = c.loop-p.p in
-    let over : (port_at P p).rate < rates_through P p = omega (arith, c.if-rates_through-from.true, c.from.ensures, c.rates_through.ensures) in
+    let over : (port_at P p).rate < rates_through P p = omega (arith, c.if-sums-p.true, c.rates-sums.ensures p (omega (arith, c.requires.size.0))) in
     first_refusal_stop (rates_answer P) P.size.ports p (Rates p) c.loop-p-test.true c.loop-p.invariant (sym (cond-false (leb (rates_through P p) (port_at P p).rate) _ _ (lt-leb (rates_through P p) (port_at P p).rate over)))
 
 pub loop-p-preserved : goal.loop-p-preserved
 loop-p-preserved c =
     let P = c.args.parts.now in
     let p = c.loop-p.p in
-    let fits : rates_through P p ≤ (port_at P p).rate = omega (arith, c.if-rates_through-from.false, c.from.ensures, c.rates_through.ensures) in
+    let fits : rates_through P p ≤ (port_at P p).rate = omega (arith, c.if-sums-p.false, c.rates-sums.ensures p (omega (arith, c.requires.size.0))) in
     first_refusal_more (rates_answer P) p c.loop-p.invariant (passes (leb (rates_through P p) (port_at P p).rate) (Rates p) (le-leb (rates_through P p) (port_at P p).rate fits))

@@ -1,4 +1,6 @@
-use Rattle.std.proofs.Common.{◌≡◌, ℕ, ◌++◌, sym, refl, ◌∙◌, subst, add-one, arith}
+use Rattle.std.proofs.Common.{◌≡◌, ℕ, suc, ◌+◌, ◌<◌, [], ◌∷◌, ◌++◌, get_or, codes, sym, refl, ◌∙◌, subst, add-one, arith}
+use Rattle.table.specs.Loads.{delay}
+use Rattle.printing.specs.Lines.{line}
 use Rattle.printing.specs.Prints.{Printed}
 use Rattle.printing.specs.Sheets.{flow_line, kit_line, lines_of, port_line}
 use Rattle.printing.proofs.Pastes.{printed_none, printed_then}
@@ -14,9 +16,13 @@ loop-p-preserved c =
     let q = c.kit_line.new.out in
     let p = c.loop-p.p in
     let i = c.loop-p.invariant in
+    let within : p < 32 = omega (arith, c.loop-p-test.true, Q.plan.few.0) in
+    let D : ℕ → Type 0 = λ n. Printed c.loop-p.out (line (codes "PORT") (p ∷ n ∷ get_or c.figures-figures.result.backlogs p 0 ∷ [])) c.port_line.new.out in
+    let B : ℕ → Type 0 = λ n. Printed c.loop-p.out (line (codes "PORT") (p ∷ delay Q.plan.parts Q.table p ∷ n ∷ [])) c.port_line.new.out in
+    let here = subst B (c.figures-figures.ensures.backlogs p within) (subst D (c.figures-figures.ensures.delays p within) c.port_line.ensures.after) in
     let P : ℕ → Type 0 = λ n. Printed q (lines_of L n) c.port_line.new.out in (
       c.port_line.ensures.owner ∙ i.0,
-      subst P (sym (add-one p)) (printed_then q c.loop-p.out c.port_line.new.out (lines_of L p) (L p) q.fits i.1 c.port_line.ensures.after),
+      subst P (sym (add-one p)) (printed_then q c.loop-p.out c.port_line.new.out (lines_of L p) (L p) q.fits i.1 here),
       omega (arith, i.2, c.port_line.ensures.short),
     )
 
@@ -30,9 +36,12 @@ loop-f-preserved c =
     let q = c.loop-p.out in
     let f = c.loop-f.f in
     let i = c.loop-f.invariant in
+    let within : f < 64 = omega (arith, c.loop-f-test.true, Q.plan.few.1) in
+    let D : ℕ → Type 0 = λ n. Printed c.loop-f.out (line (codes "FLOW") (f ∷ n ∷ [])) c.flow_line.new.out in
+    let here = subst D (c.figures-figures.ensures.flows f within) c.flow_line.ensures.after in
     let P : ℕ → Type 0 = λ n. Printed q (lines_of L n) c.flow_line.new.out in (
       c.flow_line.ensures.owner ∙ i.0,
-      subst P (sym (add-one f)) (printed_then q c.loop-f.out c.flow_line.new.out (lines_of L f) (L f) q.fits i.1 c.flow_line.ensures.after),
+      subst P (sym (add-one f)) (printed_then q c.loop-f.out c.flow_line.new.out (lines_of L f) (L f) q.fits i.1 here),
       omega (arith, i.2, c.flow_line.ensures.short),
     )
 

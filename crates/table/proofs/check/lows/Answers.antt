@@ -12,7 +12,7 @@ use Rattle.table.proofs.check.lows.Goals as goal
 pub loop-k-preserved : goal.loop-k-preserved
 loop-k-preserved c =
     let w = c.flow_of-flow.result.now in
-    let gs = c.gaps-gaps.result in
+    let gs = c.args.gaps.now in
     let r = row_at c.args.table.now c.search.f in
     let k = c.loop-k.k in
     let e : c.loop-k.need ≡ need_by w gs r k = c.loop-k.invariant.1 in (
@@ -27,7 +27,7 @@ search-preserved c =
     let P = c.args.plan.now.parts in
     let t = c.args.table.now in
     let w = c.flow_of-flow.result.now in
-    let gs = c.gaps-gaps.result in
+    let gs = c.args.gaps.now in
     let f = c.search.f in (
       c.loop-k.invariant.0,
       rows_more (λ f. lows_in f (flow_at P f) gs (row_at t f)) f c.search.invariant.1
@@ -40,7 +40,7 @@ returns-then-cell-need c =
     let P = c.args.plan.now.parts in
     let t = c.args.table.now in
     let w = c.flow_of-flow.result.now in
-    let gs = c.gaps-gaps.result in
+    let gs = c.args.gaps.now in
     let f = c.search.f in
     let k = c.loop-k.k in
     let r = row_at t f in
@@ -49,13 +49,11 @@ returns-then-cell-need c =
     (tests_at (reaches w gs r) (λ k. Low (f * 8 + k)) (hops w) k c.loop-k-test.true c.loop-k.invariant.2
     (lt-leb (need_by w gs r k) (get_or r.cells k 0) (subst (λ (n : ℕ). get_or r.cells k 0 < n) e c.if-cell-need.true))
     ∙ ap (λ (w : Flow). lows_in f w gs r) c.flow_of-flow.ensures.value)
-    ∙ ap (λ (gs : List ℕ). first_refusal (λ f. lows_in f (flow_at P f) gs (row_at t f)) P.size.flows) c.gaps-gaps.ensures.value
 
 pub returns-after-search : goal.returns-after-search
 returns-after-search c =
     let P = c.args.plan.now.parts in
     let t = c.args.table.now in
-    let gs = c.gaps-gaps.result in
+    let gs = c.args.gaps.now in
     let e : c.search.f ≡ P.size.flows = omega arith in
     c.search.invariant.0 ∙ sym c.search.invariant.1 ∙ ap (first_refusal (λ f. lows_in f (flow_at P f) gs (row_at t f))) e
-    ∙ ap (λ (gs : List ℕ). first_refusal (λ f. lows_in f (flow_at P f) gs (row_at t f)) P.size.flows) c.gaps-gaps.ensures.value

@@ -3,6 +3,7 @@ use Rattle.draft.specs.Plans.{hops}
 use Rattle.table.specs.Checks.{regulator_fits}
 use Rattle.table.specs.Paths.{stretch_after, stretch_by}
 use Rattle.table.specs.declared.fault.TableFault.TheVariants.{Crowded}
+use Rattle.table.proofs.Crowding.{regulators_none}
 use Rattle.table.proofs.Turns.{tests_all, tests_at, tests_more}
 use Rattle.table.proofs.crowds.regulators_in.Goals as goal
 
@@ -29,3 +30,6 @@ pub returns : goal.returns
 returns c =
     let w = c.args.flow.now in
     tests_all (λ k. regulator_fits w (stretch_by w c.args.delays.now k) k) (λ k. Crowded (32 + (c.args.f * 8 + k))) (hops w) c.loop-k.k (omega arith) c.loop-k.invariant.2
+
+pub returns-then-flow-eq0 : goal.returns-then-flow-eq0
+returns-then-flow-eq0 c = regulators_none c.args.f c.args.flow.now c.args.delays.now c.if-flow-eq0.true

@@ -2,7 +2,7 @@ use Rattle.std.proofs.Common.{ℕ, ◌+◌, ◌<◌, ◌≤◌, cond, eqb, lengt
 use Rattle.std.proofs.lemmas.List.{length-set}
 use Rattle.std.proofs.lemmas.Bool.{cond_both}
 use Rattle.draft.specs.Plans.{hop_port}
-use Rattle.table.proofs.Places.{add_at}
+use Rattle.plan.proofs.Sums.{add_at}
 use Rattle.table.proofs.loads.add_row.Goals as goal
 
 pub overflow_add-sums : goal.overflow_add-sums

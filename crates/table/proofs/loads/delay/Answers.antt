@@ -9,6 +9,6 @@ returns c =
     let p = c.args.p in
     record {
       value =
-          ap (λ (ds : List ℕ). get_or ds p 0) c.delays.ensures.value
+          ap (λ (ds : List ℕ). get_or ds p 0) c.reckon.ensures.value.delays
           ∙ delays_at P c.args.table.now p (ports_few P c.args.plan.now.kept p c.if-p-plan.false);
     }

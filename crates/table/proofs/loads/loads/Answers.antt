@@ -2,7 +2,7 @@ use Rattle.std.proofs.Common.{ℕ, ◌+◌, ap, ◌∙◌, add-one, arith}
 use Rattle.draft.specs.Plans.{hops, row_at}
 use Rattle.draft.specs.declared.flow.Flow.{Flow}
 use Rattle.table.specs.Loads.{load_in, load_of}
-use Rattle.table.proofs.Places.{zeros}
+use Rattle.plan.proofs.Sums.{zeros}
 use Rattle.table.proofs.loads.loads.Goals as goal
 
 pub loop-f-init : goal.loop-f-init

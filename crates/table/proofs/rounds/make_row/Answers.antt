@@ -1,26 +1,36 @@
-use Rattle.std.proofs.Common.{◌≡◌, ℕ, ◌+◌, ◌*◌, ◌<◌, ◌≤◌, Bool, true, false, ◌&&◌, eqb, leb, length, get_or, Ok, Result, sym, refl, ap, ◌∙◌, subst, add-one, arith}
+use Rattle.std.proofs.Common.{◌≡◌, ℕ, ◌+◌, ◌*◌, ◌<◌, ◌≤◌, Bool, true, false, cond, ◌&&◌, eqb, leb, length, get_or, Ok, Result, sym, refl, ap, ◌∙◌, subst, add-one, arith, rules}
 use Rattle.std.proofs.lemmas.List.{length-set}
-use Rattle.std.proofs.lemmas.Bool.{le-leb, le-ltb, lt-leb}
-use Rattle.draft.specs.Plans.{hops}
-use Rattle.draft.specs.declared.table.Row.{Row}
+use Rattle.std.proofs.lemmas.Bool.{cond_both, le-leb, le-ltb, lt-leb}
+use Rattle.draft.specs.Plans.{hop_port, hops}
 use Rattle.table.specs.Paths.{need_after}
-use Rattle.table.specs.Rounds.{gives, made, same_row}
+use Rattle.table.specs.Loads.{load_in}
+use Rattle.table.specs.Rounds.{gives, made, made_row, same_row}
 use Rattle.table.specs.declared.fault.TableFault.{TableFault}
 use Rattle.table.specs.declared.fault.TableFault.TheVariants.{Climbs}
-use Rattle.table.proofs.Places.{fill_more, zeros}
-use Rattle.table.proofs.Tables.{row_all}
+use Rattle.plan.proofs.Sums.{add_at}
+use Rattle.table.proofs.Places.{fill_more}
+use Rattle.table.proofs.Tables.{row_over, used_cell}
 use Rattle.table.proofs.Turns.{tests_all, tests_at, tests_more}
 use Rattle.table.proofs.rounds.make_row.Goals as goal
 use Rattle.table.proofs.rounds.make_row.Goals.{else-same, then-same}
 
 pub loop-k-init : goal.loop-k-init
 loop-k-init c = (
-  ap (λ (r : Row). length r.cells) c.requires.empty,
-  λ j lt. rw (le-ltb j 0 (omega arith)) (ap (λ (r : Row). get_or r.cells j 0) c.requires.empty ∙ zeros 8 j),
+  c.requires.tidy.0,
+  λ j lt. rw (le-ltb j 0 (omega arith)),
   refl,
   refl,
   refl,
+  search rules,
+  λ p lt. omega arith,
+  λ p lt. omega arith,
 )
+
+pub overflow_add-sums : goal.overflow_add-sums
+overflow_add-sums c =
+    let h = hop_port c.args.flow.now c.loop-k.k in
+    let i : h < 32 = c.requires.kept.crossed c.loop-k.k c.loop-k-test.true in
+    omega (arith, c.loop-k.invariant.7 h i, c.requires.room h i, c.requires.kept.hops_most, c.if-need.false)
 
 pub returns-then-need : goal.returns-then-need
 returns-then-need c =
@@ -33,6 +43,8 @@ returns-then-need c =
           ap (λ (r : Result (Unit {0}) TableFault). gives r (same_row w gs c.args.before.now (hops w)))
           (tests_at (λ k. leb (made w gs k) 1000000000) (λ k. Climbs (c.args.f * 8 + k)) (hops w) k c.loop-k-test.true c.loop-k.invariant.3 high);
       after = λ h. absurd (let z : ◌≡◌ {A = ℕ} 0 1 = cc in omega arith);
+      loads = λ h. absurd (let z : ◌≡◌ {A = ℕ} 0 1 = cc in omega arith);
+      most = λ h. absurd (let z : ◌≡◌ {A = ℕ} 0 1 = cc in omega arith);
     }
 
 pub loop-k-preserved : goal.loop-k-preserved
@@ -50,12 +62,25 @@ loop-k-preserved c =
     let here : c.if-same.same ≡ test (same_row w gs old k) = elim c.if-same.branch [
       | then-same o ↦ o.same-is ∙ ap (λ (n : ℕ). eqb n (get_or old.cells k 0)) c.loop-k.invariant.2 ∙ ap test (sym o.if-same.true ∙ before)
       | else-same o ↦ o.same-is ∙ o.if-same.false ∙ ap test (sym o.if-same.false ∙ before)
-    ] in (
+    ] in
+    let h = hop_port w k in
+    let ys = c.loop-k.sums in
+    let j : h < length ys = omega (arith, c.requires.kept.crossed k c.loop-k-test.true, c.loop-k.invariant.5) in
+    let cell : x ≡ get_or (made_row w gs).cells k 0 = c.loop-k.invariant.2 ∙ sym (used_cell w (made w gs) k c.requires.kept.hops_most c.loop-k-test.true) in (
       length-set xs k x ∙ c.loop-k.invariant.0,
-      λ j lt. fill_more (made w gs) (λ _. 0) xs k x 0 i c.loop-k.invariant.2 (λ a b. c.loop-k.invariant.1 a (omega arith)) j (omega arith),
+      λ j lt. fill_more (made w gs) (λ j. get_or c.args.row.now.cells j 0) xs k x 0 i c.loop-k.invariant.2 (λ a b. c.loop-k.invariant.1 a (omega arith)) j (omega arith),
       rw (add-one k) (c.need_after-need.ensures.value ∙ ap (λ (n : ℕ). need_after w gs n k) c.loop-k.invariant.2),
       tests_more (λ k. leb (made w gs k) 1000000000) (λ k. Climbs (c.args.f * 8 + k)) k c.loop-k.invariant.3 within,
       rw (add-one k) here,
+      length-set ys h (get_or ys h 0 + x) ∙ c.loop-k.invariant.5,
+      λ p lt.
+          rw (add-one k)
+          (add_at ys h x p j ∙ ap (λ (n : ℕ). n + cond (eqb h p) x 0) (c.loop-k.invariant.6 p lt)
+          ∙ ap (λ (n : ℕ). get_or c.args.sums.now p 0 + load_in w (made_row w gs) p k + cond (eqb h p) n 0) cell ∙ (omega arith)),
+      λ p lt.
+          let low : x ≤ 4294967295 = omega (arith, c.if-need.false) in
+          let b : cond (eqb h p) x 0 ≤ 4294967295 = cond_both (eqb h p) x 0 (λ n. n ≤ 4294967295) (λ _. low) (λ _. omega arith) in
+          rw (add_at ys h x p j) (omega (arith, c.loop-k.invariant.7 p lt)),
     )
 
 pub returns : goal.returns
@@ -68,5 +93,7 @@ returns c =
           ap Ok (c.loop-k.invariant.4 ∙ ap (same_row w gs c.args.before.now) e)
           ∙ ap (λ (r : Result (Unit {0}) TableFault). gives r (same_row w gs c.args.before.now (hops w)))
           (tests_all (λ k. leb (made w gs k) 1000000000) (λ k. Climbs (c.args.f * 8 + k)) (hops w) c.loop-k.k e c.loop-k.invariant.3);
-      after = λ _. row_all w (made w gs) c.loop-k.row c.loop-k.k c.loop-k.invariant.0 e c.loop-k.invariant.1;
+      after = λ _. row_over w (made w gs) c.args.row.now c.loop-k.row c.loop-k.k c.requires.tidy c.loop-k.invariant.0 e c.loop-k.invariant.1;
+      loads = λ _ p lt. c.loop-k.invariant.6 p lt ∙ ap (λ (n : ℕ). get_or c.args.sums.now p 0 + load_in w (made_row w gs) p n) e;
+      most = λ _ p lt. omega (arith, c.loop-k.invariant.7 p lt, c.requires.kept.hops_most);
     }

@@ -4,7 +4,8 @@ use Rattle.std.proofs.lemmas.List.{length-set}
 use Rattle.std.proofs.lemmas.Bool.{le-ltb}
 use Rattle.draft.specs.Plans.{hops}
 use Rattle.table.specs.Rounds.{row_by}
-use Rattle.table.proofs.Places.{fill_more, zeros}
+use Rattle.plan.proofs.Sums.{zeros}
+use Rattle.table.proofs.Places.{fill_more}
 use Rattle.table.proofs.search.start_row.Goals as goal
 
 pub loop-k-init : goal.loop-k-init
