@@ -20,17 +20,17 @@ pub enum CabinetFault {
     LastSlot,
 }
 
-impl CabinetFault {
-    // The refusal that tells of it.
-    pub fn refusal(&self) -> Refusal
-        ensures { result ≡ refusal_of self.now }
-    {
-        match self {
-            CabinetFault::NoPort(port) => Refusal::new(40, *port as u64),
-            CabinetFault::Length(port) => Refusal::new(41, *port as u64),
-            CabinetFault::Full(port) => Refusal::new(42, *port as u64),
-            CabinetFault::Finish(port) => Refusal::new(43, *port as u64),
-            CabinetFault::Owed(port) => Refusal::new(44, *port as u64),
+// Its number, layer and place.
+impl From<CabinetFault> for Refusal {
+    ghost from_gives = { λ fault refusal. refusal ≡ refusal_of fault };
+
+    fn from(fault: CabinetFault) -> Refusal {
+        match fault {
+            CabinetFault::NoPort(port) => Refusal::new(40, port as u64),
+            CabinetFault::Length(port) => Refusal::new(41, port as u64),
+            CabinetFault::Full(port) => Refusal::new(42, port as u64),
+            CabinetFault::Finish(port) => Refusal::new(43, port as u64),
+            CabinetFault::Owed(port) => Refusal::new(44, port as u64),
             CabinetFault::LastSlot => Refusal::new(44, 32),
         }
     }

@@ -76,7 +76,7 @@ fn compare(bytes: &[u8], outcome: Outcome, second: &Second) -> Verdict {
             _ => Verdict::Differing,
         },
         Err(fault) => {
-            let refusal = fault.refusal();
+            let refusal = Refusal::from(fault);
             if refusal.number == 25 {
                 Verdict::Undecided
             } else {

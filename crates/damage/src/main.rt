@@ -4,6 +4,7 @@
 ghost use Rattle.std.specs.Prelude.{◌≤◌, length, IfOk};
 
 use printing::quote_of;
+use refusal::Refusal;
 use std::io;
 use std::io::Read;
 
@@ -32,7 +33,7 @@ fn tell(rt: &HostRuntime, what: &str, place: usize, value: usize, bytes: &[u8]) 
     match quote_of(bytes) {
         Ok(quote) => println!(rt; "{what} {place} {value}: accepted, rounds {}", quote.rounds),
         Err(fault) => {
-            let refusal = fault.refusal();
+            let refusal = Refusal::from(fault);
             println!(rt;
                 "{what} {place} {value}: {} at {}",
                 refusal.number, refusal.place

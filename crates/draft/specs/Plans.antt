@@ -1,8 +1,9 @@
 -- Ports, flows and rows by their numbers; what does not exist is all 0.
-use Rattle.std.specs.Prelude.{ℕ, [], replicate, slice_index, slice_index_or}
+use Rattle.std.specs.Prelude.{ℕ, List, [], min, replicate, slice_index, slice_index_or, take}
 use Rattle.draft.specs.declared.draft.Draft.{Draft}
 use Rattle.draft.specs.declared.flow.Flow.{Flow}
 use Rattle.draft.specs.declared.parts.Parts.{Parts}
+use Rattle.draft.specs.declared.path.Path.{Path}
 use Rattle.draft.specs.declared.port.Port.{Port}
 use Rattle.draft.specs.declared.table.Proposal.{Proposal}
 use Rattle.draft.specs.declared.table.Row.{Row}
@@ -39,6 +40,18 @@ hops w = w.path.hops
 abbrev pub hop_port : Flow → ℕ → ℕ
 hop_port w k = slice_index w.path.ports k
 
+-- the ports that a path names, of the eight that there is room for
+abbrev pub crossed : Path → List ℕ
+crossed path = take (min path.hops 8) path.ports
+
+-- the ports that there are, of the 32 that there is room for
+abbrev pub ports_of : Parts → List Port
+ports_of P = take (min P.size.ports 32) P.ports
+
+-- the flows that there are, of the 64 that there is room for
+abbrev pub flows_of : Parts → List Flow
+flows_of P = take (min P.size.flows 64) P.flows
+
 abbrev pub row_at : Table → ℕ → Row
 row_at t f = slice_index_or t.rows f no_row
 
@@ -57,8 +70,11 @@ blank_row = record { cells = replicate 8 0 }
 abbrev pub empty_parts : Parts
 empty_parts = record { ports = replicate 32 no_port; flows = replicate 64 blank_flow; size = record { ports = 0; flows = 0 } }
 
+abbrev pub no_table : Table
+no_table = record { rows = replicate 64 blank_row }
+
 abbrev pub no_proposal : Proposal
-no_proposal = record { table = record { rows = replicate 64 blank_row }; rows = 0 }
+no_proposal = record { table = no_table; rows = 0 }
 
 abbrev pub empty_draft : Draft
 empty_draft = record { parts = empty_parts; proposal = no_proposal }

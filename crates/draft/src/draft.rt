@@ -8,7 +8,7 @@ use crate::mask::Mask;
 use crate::parts::{Parts, Size};
 use crate::path::Path;
 use crate::port::Port;
-use crate::table::{Proposal, Row, Table};
+use crate::table::{Proposal, Table};
 
 // Ports, flows and proposed rows as a file gives them.
 #[derive(Clone, Copy)]
@@ -32,7 +32,7 @@ const NO_FLOW: Flow = Flow {
 
 static NO_FLOWS: [Flow; MOST_FLOWS] = [NO_FLOW; MOST_FLOWS];
 
-// The flows of an empty plan, where they stand: they are copied in one go.
+// The flows of an empty plan, where they stand: they are copied in one go, which a `Default` of each would not be.
 fn no_flows() -> &'static [Flow; MOST_FLOWS]
     ensures { result.now ≡ replicate 64 blank_flow }
 {
@@ -44,14 +44,8 @@ impl Parts {
     pub fn empty() -> Parts
         ensures { result ≡ empty_parts }
     {
-        let port = Port {
-            rate: 0,
-            latency: 0,
-            stay: 0,
-            shortest: 0,
-        };
         Parts {
-            ports: [port; MOST_PORTS],
+            ports: [Port::default(); MOST_PORTS],
             flows: *no_flows(),
             size: Size { ports: 0, flows: 0 },
         }
@@ -63,13 +57,8 @@ impl Proposal {
     pub fn none() -> Proposal
         ensures { result ≡ no_proposal }
     {
-        let row = Row {
-            cells: [0; MOST_HOPS],
-        };
         Proposal {
-            table: Table {
-                rows: [row; MOST_FLOWS],
-            },
+            table: Table::empty(),
             rows: 0,
         }
     }

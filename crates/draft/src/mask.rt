@@ -5,7 +5,7 @@ ghost use Rattle.draft.specs.Masks.{bit, bits_below, regulated, regulators};
 use crate::limits::MOST_HOPS;
 
 // A regulator mask: bit k, from the lowest, puts a regulator before hop k.
-#[derive(Clone, Copy)]
+#[derive(Clone, Copy, Default, PartialEq, Eq)]
 pub struct Mask {
     pub bits: u8,
 }
@@ -42,6 +42,7 @@ impl Mask {
         ensures value { result ≡ bits_below self.now.bits (min end 8) }
         ensures few { result ≤ 8 }
     {
+        // A loop, since the mask is counted by shifts; `filter(..).count()` was tried, and its proof did not close.
         let mut n = 0;
         for hop in 0..end.min(MOST_HOPS) {
             n += u32::from(bit_of(self.bits, hop));

@@ -1,8 +1,11 @@
 // Burst tables, and what a file proposes of one.
+ghost use Rattle.std.specs.Prelude.{◌≡◌};
+ghost use Rattle.draft.specs.Plans.{no_table};
+
 use crate::limits::{MOST_FLOWS, MOST_HOPS};
 
 // The bursts of one flow, hop by hop; a cell past the path is 0.
-#[derive(Clone, Copy)]
+#[derive(Clone, Copy, Default, PartialEq, Eq)]
 pub struct Row {
     pub cells: [u32; MOST_HOPS],
 }
@@ -18,4 +21,15 @@ pub struct Table {
 pub struct Proposal {
     pub table: Table,
     pub rows: usize,
+}
+
+impl Table {
+    // Every cell 0.
+    pub fn empty() -> Table
+        ensures { result ≡ no_table }
+    {
+        Table {
+            rows: [Row::default(); MOST_FLOWS],
+        }
+    }
 }

@@ -20,18 +20,18 @@ pub enum FileFault {
     Excess(usize),
 }
 
-impl FileFault {
-    // The refusal that tells of it.
-    pub fn refusal(&self) -> Refusal
-        ensures { result ≡ refusal_of self.now }
-    {
-        match self {
-            FileFault::Cut(place) => Refusal::new(1, *place as u64),
-            FileFault::Kind(place) => Refusal::new(2, *place as u64),
-            FileFault::Order(place) => Refusal::new(3, *place as u64),
-            FileFault::Count(place) => Refusal::new(4, *place as u64),
-            FileFault::Trailing(place) => Refusal::new(5, *place as u64),
-            FileFault::Excess(place) => Refusal::new(6, *place as u64),
+// Its number, layer and place.
+impl From<FileFault> for Refusal {
+    ghost from_gives = { λ fault refusal. refusal ≡ refusal_of fault };
+
+    fn from(fault: FileFault) -> Refusal {
+        match fault {
+            FileFault::Cut(place) => Refusal::new(1, place as u64),
+            FileFault::Kind(place) => Refusal::new(2, place as u64),
+            FileFault::Order(place) => Refusal::new(3, place as u64),
+            FileFault::Count(place) => Refusal::new(4, place as u64),
+            FileFault::Trailing(place) => Refusal::new(5, place as u64),
+            FileFault::Excess(place) => Refusal::new(6, place as u64),
         }
     }
 }

@@ -6,6 +6,7 @@ ghost use Rattle.printing.specs.Sheets.{place_after, print_answer, sheet_quote};
 ghost use Rattle.foreign.specs.Outcomes.{count_of, outcome};
 
 use printing::{print, quote_of};
+use refusal::Refusal;
 
 // The number of the first refusal, or 256 and the rounds of the quote.
 #[unsafe(no_mangle)]
@@ -14,7 +15,7 @@ pub extern "C" fn hovzirna_outcome(bytes: &[u8]) -> u64
 {
     match quote_of(bytes) {
         Ok(quote) => 256 + u64::from(quote.rounds),
-        Err(fault) => u64::from(fault.refusal().number),
+        Err(fault) => u64::from(Refusal::from(fault).number),
     }
 }
 

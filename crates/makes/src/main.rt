@@ -8,6 +8,7 @@ use gathering::Gathering;
 use latest::Latest;
 use line::Queue;
 use prompt::Prompt;
+use refusal::Refusal;
 use service::Frame;
 use std::io;
 
@@ -35,11 +36,8 @@ fn tell(rt: &HostRuntime, what: &str, answer: Result<(), CabinetFault>) -> io::R
     match answer {
         Ok(()) => println!(rt; "{what}: accepted"),
         Err(fault) => {
-            let refusal = fault.refusal();
-            println!(rt;
-                "{what}: {} {} {}",
-                refusal.layer, refusal.number, refusal.place
-            )
+            let refusal = Refusal::from(fault);
+            println!(rt; "{what}: {refusal}")
         }
     }
 }

@@ -24,20 +24,20 @@ pub enum NetworkFault {
     Finish(usize),
 }
 
-impl NetworkFault {
-    // The refusal that tells of it.
-    pub fn refusal(&self) -> Refusal
-        ensures { result ≡ refusal_of self.now }
-    {
-        match self {
-            NetworkFault::NoFlow(flow) => Refusal::new(30, *flow as u64),
+// Its number, layer and place.
+impl From<NetworkFault> for Refusal {
+    ghost from_gives = { λ fault refusal. refusal ≡ refusal_of fault };
+
+    fn from(fault: NetworkFault) -> Refusal {
+        match fault {
+            NetworkFault::NoFlow(flow) => Refusal::new(30, flow as u64),
             NetworkFault::Closed => Refusal::new(31, 0),
-            NetworkFault::Length(flow) => Refusal::new(32, *flow as u64),
-            NetworkFault::Level(flow) => Refusal::new(33, *flow as u64),
+            NetworkFault::Length(flow) => Refusal::new(32, flow as u64),
+            NetworkFault::Level(flow) => Refusal::new(33, flow as u64),
             NetworkFault::LastSlot => Refusal::new(34, 0),
             NetworkFault::Tray => Refusal::new(35, 0),
-            NetworkFault::Full(flow) => Refusal::new(36, *flow as u64),
-            NetworkFault::Finish(port) => Refusal::new(43, *port as u64),
+            NetworkFault::Full(flow) => Refusal::new(36, flow as u64),
+            NetworkFault::Finish(port) => Refusal::new(43, port as u64),
         }
     }
 }

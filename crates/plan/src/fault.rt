@@ -34,20 +34,20 @@ impl From<FileFault> for PlanFault {
     }
 }
 
-impl PlanFault {
-    // The refusal that tells of it.
-    pub fn refusal(&self) -> Refusal
-        ensures { result ≡ refusal_of self.now }
-    {
-        match self {
-            PlanFault::File(fault) => fault.refusal(),
-            PlanFault::Figures(port) => Refusal::new(10, *port as u64),
-            PlanFault::Stay(port) => Refusal::new(11, *port as u64),
-            PlanFault::Bucket(flow) => Refusal::new(12, *flow as u64),
-            PlanFault::Path(flow) => Refusal::new(13, *flow as u64),
-            PlanFault::Frames(flow) => Refusal::new(14, *flow as u64),
-            PlanFault::Mask(flow) => Refusal::new(15, *flow as u64),
-            PlanFault::Rates(port) => Refusal::new(16, *port as u64),
+// Its number, layer and place.
+impl From<PlanFault> for Refusal {
+    ghost from_gives = { λ fault refusal. refusal ≡ refusal_of fault };
+
+    fn from(fault: PlanFault) -> Refusal {
+        match fault {
+            PlanFault::File(fault) => Refusal::from(fault),
+            PlanFault::Figures(port) => Refusal::new(10, port as u64),
+            PlanFault::Stay(port) => Refusal::new(11, port as u64),
+            PlanFault::Bucket(flow) => Refusal::new(12, flow as u64),
+            PlanFault::Path(flow) => Refusal::new(13, flow as u64),
+            PlanFault::Frames(flow) => Refusal::new(14, flow as u64),
+            PlanFault::Mask(flow) => Refusal::new(15, flow as u64),
+            PlanFault::Rates(port) => Refusal::new(16, port as u64),
         }
     }
 }

@@ -8,9 +8,7 @@ ghost use Rattle.plan.specs.Rates.{Simples};
 
 use crate::fault::PlanFault;
 use crate::path::path_fits;
-use draft::limits::{
-    LEAST_FRAME, MOST_BURST, MOST_FLOWS, MOST_FRAME, MOST_HOPS, MOST_RATE, MOST_REGULATORS,
-};
+use draft::limits::{LEAST_FRAME, MOST_BURST, MOST_FRAME, MOST_HOPS, MOST_RATE, MOST_REGULATORS};
 use draft::{Flow, Parts, Port};
 
 fn bucket_fits(flow: Flow) -> bool
@@ -29,11 +27,7 @@ fn bucket_fits(flow: Flow) -> bool
 fn shortest_at(ports: &[Port], p: usize) -> u32
     ensures { result ≡ (slice_index_or ports.now p no_port).shortest }
 {
-    if p < ports.len() {
-        ports[p].shortest
-    } else {
-        0
-    }
+    ports.get(p).map_or(0, |port| port.shortest)
 }
 
 fn frame_fits(parts: &Parts, flow: Flow, hop: usize) -> bool
@@ -48,12 +42,7 @@ fn frames_fit(parts: &Parts, flow: Flow) -> bool
     requires { hops flow ≤ 8 }
     ensures { result ≡ all_below (frame_fits parts.now flow) (hops flow) }
 {
-    for hop in 0..flow.path.hops as usize {
-        if !frame_fits(parts, flow, hop) {
-            return false;
-        }
-    }
-    true
+    (0..usize::from(flow.path.hops)).all(|hop| frame_fits(parts, flow, hop))
 }
 
 fn bit_fits(flow: Flow, hop: usize) -> bool
@@ -66,12 +55,7 @@ fn bit_fits(flow: Flow, hop: usize) -> bool
 fn mask_fits(flow: Flow) -> bool
     ensures { result ≡ mask_fits flow }
 {
-    for hop in 0..MOST_HOPS {
-        if !bit_fits(flow, hop) {
-            return false;
-        }
-    }
-    true
+    (0..MOST_HOPS).all(|hop| bit_fits(flow, hop))
 }
 
 // The mask fits, and so do the regulators counted with it.
@@ -86,10 +70,9 @@ fn check_flow(parts: &Parts, f: usize, before: u32) -> Result<u32, PlanFault>
     requires { (before ≡ regulators_of parts.now f) × (before ≤ 32) }
     ensures { MatchResult result (λ n. (flow_answer parts.now f ≡ Ok tt) × (n ≡ regulators_of parts.now (f + 1)) × (n ≤ 32)) (λ e. flow_answer parts.now f ≡ Err e) }
 {
-    if f >= MOST_FLOWS {
+    let Some(&flow) = parts.flows.get(f) else {
         return Err(PlanFault::Bucket(f));
-    }
-    let flow = parts.flows[f];
+    };
     if !bucket_fits(flow) {
         return Err(PlanFault::Bucket(f));
     }

@@ -7,24 +7,13 @@ ghost use Rattle.plan.specs.Limits.{crosses};
 use draft::Flow;
 use draft::limits::{MOST_HOPS, UNUSED};
 
-fn differ(flow: Flow, j: usize, hop: usize) -> bool
-    requires { (j < 8) × (hop < 8) }
-    ensures { result ≡ not (hop_port flow j == hop_port flow hop) }
-{
-    flow.path.ports[j] != flow.path.ports[hop]
-}
-
 // No hop before this one has the same port.
 fn first_visit(flow: Flow, hop: usize) -> bool
     requires { hop < 8 }
     ensures { result ≡ first_visit flow hop }
 {
-    for j in 0..hop {
-        if !differ(flow, j, hop) {
-            return false;
-        }
-    }
-    true
+    let here = flow.path.ports[hop];
+    !flow.path.ports[..hop].contains(&here)
 }
 
 fn byte_fits(flow: Flow, ports: usize, hop: usize) -> bool
@@ -32,8 +21,8 @@ fn byte_fits(flow: Flow, ports: usize, hop: usize) -> bool
     ensures { result ≡ byte_fits ports flow hop }
 {
     let port = flow.path.ports[hop];
-    if hop < flow.path.hops as usize {
-        (port as usize) < ports && first_visit(flow, hop)
+    if hop < usize::from(flow.path.hops) {
+        usize::from(port) < ports && first_visit(flow, hop)
     } else {
         port == UNUSED
     }
@@ -43,32 +32,13 @@ fn byte_fits(flow: Flow, ports: usize, hop: usize) -> bool
 pub(crate) fn path_fits(flow: Flow, ports: usize) -> bool
     ensures { result ≡ path_fits ports flow }
 {
-    if flow.path.hops < 1 || flow.path.hops as usize > MOST_HOPS {
-        return false;
-    }
-    for hop in 0..MOST_HOPS {
-        if !byte_fits(flow, ports, hop) {
-            return false;
-        }
-    }
-    true
-}
-
-fn misses(flow: Flow, port: usize, hop: usize) -> bool
-    requires { hop < 8 }
-    ensures { result ≡ not (nat_lt hop (hops flow) && hop_port flow hop == port) }
-{
-    !(hop < flow.path.hops as usize && flow.path.ports[hop] as usize == port)
+    let hops = usize::from(flow.path.hops);
+    hops >= 1 && hops <= MOST_HOPS && (0..MOST_HOPS).all(|hop| byte_fits(flow, ports, hop))
 }
 
 // Whether the flow crosses this port.
 pub(crate) fn crosses(flow: Flow, port: usize) -> bool
     ensures { result ≡ crosses flow port }
 {
-    for hop in 0..MOST_HOPS {
-        if !misses(flow, port, hop) {
-            return true;
-        }
-    }
-    false
+    flow.path.crossed().iter().any(|p| usize::from(*p) == port)
 }

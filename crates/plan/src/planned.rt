@@ -19,12 +19,9 @@ impl Planned {
         ensures { MatchResult result (λ f. file_answer bytes.now ≡ Ok (record { parts = f.plan.parts; proposal = f.proposal })) (λ e. file_answer bytes.now ≡ Err e) }
     {
         let draft = file::read(bytes)?;
-        match Plan::check(draft.parts) {
-            Ok(plan) => Ok(Planned {
-                plan,
-                proposal: draft.proposal,
-            }),
-            Err(fault) => Err(fault),
-        }
+        Ok(Planned {
+            plan: Plan::check(draft.parts)?,
+            proposal: draft.proposal,
+        })
     }
 }

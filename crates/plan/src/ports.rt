@@ -4,7 +4,7 @@ ghost use Rattle.refusal.specs.Firsts.{first_refusal};
 ghost use Rattle.plan.specs.Checks.{figures_fit, port_answer, port_fits, stay_fits};
 
 use crate::fault::PlanFault;
-use draft::limits::{LEAST_FRAME, MOST_FRAME, MOST_LATENCY, MOST_PORTS, MOST_RATE};
+use draft::limits::{LEAST_FRAME, MOST_FRAME, MOST_LATENCY, MOST_RATE};
 use draft::{Parts, Port};
 use rounding::up;
 
@@ -35,10 +35,9 @@ pub fn port_fits(port: Port) -> bool
 fn check_port(parts: &Parts, p: usize) -> Result<(), PlanFault>
     ensures { result ≡ port_answer parts.now p }
 {
-    if p >= MOST_PORTS {
+    let Some(&port) = parts.ports.get(p) else {
         return Err(PlanFault::Figures(p));
-    }
-    let port = parts.ports[p];
+    };
     if !figures_fit(port) {
         return Err(PlanFault::Figures(p));
     }

@@ -28,8 +28,8 @@ pub(crate) fn rates_through(parts: &Parts, port: usize) -> u64
     ensures { result ≡ rates_through parts.now port }
 {
     let mut sum = 0;
-    for f in 0..parts.size.flows {
-        sum += rate_at(parts.flows[f], port);
+    for flow in parts.flows() {
+        sum += rate_at(*flow, port);
     }
     sum
 }
@@ -41,9 +41,8 @@ fn add_rate(sums: &mut [u64; MOST_PORTS], flow: &Flow)
     ensures value { (p : ℕ) → p < 32 → slice_index sums.new p ≡ slice_index sums.old p + (if crosses flow.now p then flow.now.rate else 0) }
     ensures few { (p : ℕ) → p < 32 → slice_index sums.new p ≤ slice_index sums.old p + 8 * 4294967295 }
 {
-    for hop in 0..flow.path.hops as usize {
-        let p = flow.path.ports[hop] as usize;
-        sums[p] += flow.rate as u64;
+    for port in flow.path.crossed() {
+        sums[usize::from(*port)] += u64::from(flow.rate);
     }
 }
 
@@ -54,8 +53,8 @@ pub(crate) fn rates(parts: &Parts) -> [u64; MOST_PORTS]
     ensures { (p : ℕ) → p < 32 → slice_index result p ≡ rates_through parts.now p }
 {
     let mut sums = [0; MOST_PORTS];
-    for f in 0..parts.size.flows {
-        add_rate(&mut sums, &parts.flows[f]);
+    for flow in parts.flows() {
+        add_rate(&mut sums, flow);
     }
     sums
 }
@@ -67,8 +66,8 @@ pub(crate) fn check_rates(parts: &Parts) -> Result<(), PlanFault>
     ensures { result ≡ first_refusal (rates_answer parts.now) parts.now.size.ports }
 {
     let sums = rates(parts);
-    for p in 0..parts.size.ports {
-        if sums[p] > parts.ports[p].rate as u64 {
+    for (p, port) in parts.ports().iter().enumerate() {
+        if sums[p] > u64::from(port.rate) {
             return Err(PlanFault::Rates(p));
         }
     }

@@ -33,14 +33,14 @@ impl From<TableFault> for SheetFault {
     }
 }
 
-impl SheetFault {
-    // The refusal that tells of it.
-    pub fn refusal(&self) -> Refusal
-        ensures { result ≡ refusal_of self.now }
-    {
-        match self {
-            SheetFault::Plan(fault) => fault.refusal(),
-            SheetFault::Table(fault) => fault.refusal(),
+// Its number, layer and place.
+impl From<SheetFault> for Refusal {
+    ghost from_gives = { λ fault refusal. refusal ≡ refusal_of fault };
+
+    fn from(fault: SheetFault) -> Refusal {
+        match fault {
+            SheetFault::Plan(fault) => Refusal::from(fault),
+            SheetFault::Table(fault) => Refusal::from(fault),
             SheetFault::Place => Refusal::new(27, 0),
         }
     }

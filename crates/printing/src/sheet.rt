@@ -116,7 +116,7 @@ pub fn print(bytes: &[u8], place: &mut [u8]) -> Result<usize, SheetFault>
     let mut out = Queue::new(place);
     match quote_of(bytes) {
         Ok(quote) => lines(&mut out, &quote),
-        Err(fault) => no_line(&mut out, fault.refusal()),
+        Err(fault) => no_line(&mut out, Refusal::from(fault)),
     }
     Ok(out.len())
 }

@@ -1,7 +1,7 @@
 -- What a loop over tests tried in order knows at each turn.
 use Rattle.std.proofs.Common.{◌≡◌, ℕ, zero, suc, ◌+◌, ◌<◌, ◌≤◌, Bool, true, false, ◌&&◌, Ok, Err, Result, sym, refl, ap, ◌∙◌, subst, ⊎_elim, add-one, arith}
 use native.Mathlib.Decide.{ℕ_discrete}
-use Rattle.std.proofs.lemmas.Bool.{and_cases, and_from, and_parts, and_right, both_ways}
+use Rattle.std.proofs.lemmas.Bool.{and_cases, and_from, and_parts, and_right, both_ways, cases_lt}
 use Rattle.refusal.specs.Firsts.{all_below, and_then, first_refusal}
 
 -- a loop over tests: one more passes
@@ -45,6 +45,19 @@ pub all_below_from : (b : ℕ → Bool) (n : ℕ) → ((k : ℕ) → k < n → b
 all_below_from b zero h = refl
 all_below_from b (suc n) h =
     ap (λ x. x && b n) (all_below_from b n (λ k l. h k (omega arith))) ∙ h n (omega arith)
+
+-- the same tests below n, and none that fails from there on
+pub all_below_past : (a b : ℕ → Bool) (n m : ℕ) → n ≤ m → ((k : ℕ) → k < n → a k ≡ b k) → ((k : ℕ) → n ≤ k → k < m → b k ≡ true) → all_below a n ≡ all_below b m
+all_below_past a b n m l same rest = decide (all_below a n) refl
+  where
+    decide : (v : Bool) → all_below a n ≡ v → v ≡ all_below b m
+    decide true e = sym (all_below_from b m (λ k h. ⊎_elim
+        (λ (low : k < n). sym (same k low) ∙ all_below_each a n e k low)
+        (λ (high : n ≤ k). rest k high h)
+        (cases_lt k n)))
+    decide false e =
+        let t = all_below_some a n e in
+        sym (all_below_fails b m t.0 (omega (arith, t.1)) (sym (same t.0 t.1) ∙ t.2))
 
 -- a loop over tests: one more refuses nothing
 pub first_refusal_more : {E : Type 0} (F : ℕ → Result (Unit {0}) E) (k : ℕ) → first_refusal F k ≡ Ok tt → F k ≡ Ok tt → first_refusal F (k + 1) ≡ Ok tt

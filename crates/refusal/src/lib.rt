@@ -1,11 +1,13 @@
 // How every layer says no: a number, its layer and a place.
 #![tactic(auto)]
 
-ghost use Rattle.std.specs.Prelude.{◌≡◌};
-ghost use Rattle.refusal.specs.Numbers.{refused};
+ghost use Rattle.std.specs.Prelude.{◌≡◌, Some};
+ghost use Rattle.refusal.specs.Numbers.{refused, shown};
+
+use std::fmt;
 
 // What a refusal tells the user. The layer is the number's tens: 0 file, 1 plan, 2 table, 3 network, 4 cabinet.
-#[derive(Clone, Copy)]
+#[derive(Clone, Copy, Debug, PartialEq, Eq)]
 pub struct Refusal {
     pub layer: u8,
     pub number: u8,
@@ -22,5 +24,14 @@ impl Refusal {
             number,
             place,
         }
+    }
+}
+
+// Its layer, number and place, in that order.
+impl fmt::Display for Refusal {
+    ghost output = { λ refusal. Some (shown refusal) };
+
+    fn fmt<W: fmt::Write>(&self, f: &mut fmt::Formatter<W>) -> fmt::Result {
+        write!(f, "{} {} {}", self.layer, self.number, self.place)
     }
 }

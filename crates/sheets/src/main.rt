@@ -4,6 +4,7 @@
 use anyhow::anyhow;
 use plan::Plan;
 use printing::print;
+use refusal::Refusal;
 use std::io::Write;
 use std::{env, fs};
 use table::least;
@@ -23,19 +24,11 @@ fn sheet(rt: &HostRuntime, name: &str) -> anyhow::Result<()> {
 fn small_memory(rt: &HostRuntime) -> anyhow::Result<()> {
     let mut scratch = [0; 511];
     if let Err(fault) = least(Plan::empty(), 1, &mut scratch) {
-        let refusal = fault.refusal();
-        println!(rt;
-            "scratch of 511: {} {} {}",
-            refusal.layer, refusal.number, refusal.place
-        )?;
+        println!(rt; "scratch of 511: {}", Refusal::from(fault))?;
     }
     let mut place = [0; 4095];
     if let Err(fault) = print(b"", &mut place) {
-        let refusal = fault.refusal();
-        println!(rt;
-            "place of 4095: {} {} {}",
-            refusal.layer, refusal.number, refusal.place
-        )?;
+        println!(rt; "place of 4095: {}", Refusal::from(fault))?;
     }
     Ok(())
 }

@@ -22,17 +22,17 @@ pub enum TableFault {
     Scratch,
 }
 
-impl TableFault {
-    // The refusal that tells of it.
-    pub fn refusal(&self) -> Refusal
-        ensures { result ≡ refusal_of self.now }
-    {
-        match self {
-            TableFault::Rows(rows) => Refusal::new(20, *rows as u64),
-            TableFault::Low(place) => Refusal::new(21, *place as u64),
-            TableFault::Cell(place) => Refusal::new(22, *place as u64),
-            TableFault::Crowded(place) => Refusal::new(23, *place as u64),
-            TableFault::Climbs(place) => Refusal::new(24, *place as u64),
+// Its number, layer and place.
+impl From<TableFault> for Refusal {
+    ghost from_gives = { λ fault refusal. refusal ≡ refusal_of fault };
+
+    fn from(fault: TableFault) -> Refusal {
+        match fault {
+            TableFault::Rows(rows) => Refusal::new(20, rows as u64),
+            TableFault::Low(place) => Refusal::new(21, place as u64),
+            TableFault::Cell(place) => Refusal::new(22, place as u64),
+            TableFault::Crowded(place) => Refusal::new(23, place as u64),
+            TableFault::Climbs(place) => Refusal::new(24, place as u64),
             TableFault::Rounds => Refusal::new(25, 0),
             TableFault::Scratch => Refusal::new(26, 0),
         }

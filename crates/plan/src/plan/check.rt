@@ -37,9 +37,7 @@ impl Plan {
         ensures answer { MatchResult result (λ plan. (plan.parts ≡ parts) × (limits_answer parts ≡ Ok tt)) (λ e. limits_answer parts ≡ Err e) }
         ensures exact { MatchResult result (λ _. Kept parts) (λ _. Kept parts → ⊥) }
     {
-        match first_fault(&parts) {
-            Ok(()) => Ok(Plan { parts }),
-            Err(fault) => Err(fault),
-        }
+        first_fault(&parts)?;
+        Ok(Plan { parts })
     }
 }

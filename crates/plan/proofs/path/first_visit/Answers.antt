@@ -1,16 +1,12 @@
-use Rattle.std.proofs.Common.{not, eqb, sym}
+use Rattle.std.proofs.Common.{eqb, refl, take, rules}
+use Rattle.refusal.proofs.Chains.{all_below_by_found}
 use Rattle.draft.specs.Plans.{hop_port}
-use Rattle.refusal.proofs.Orders.{all_below_more, all_below_stop}
+use Rattle.plan.proofs.Crossings.{first_named}
 use Rattle.plan.proofs.path.first_visit.Goals as goal
 
-pub returns-then-not-differ : goal.returns-then-not-differ
-returns-then-not-differ c =
+pub returns : goal.returns
+returns c =
     let w = c.args.flow in
     let k = c.args.hop in
-    all_below_stop (λ j. not (eqb (hop_port w j) (hop_port w k))) k c.loop-j.j c.loop-j-test.true c.if-not-differ.ensures
-
-pub loop-j-preserved : goal.loop-j-preserved
-loop-j-preserved c =
-    let w = c.args.flow in
-    let k = c.args.hop in
-    all_below_more (λ j. not (eqb (hop_port w j) (hop_port w k))) c.loop-j.j c.loop-j.invariant (sym c.if-not-differ.ensures)
+    let xs = take k w.path.ports in
+    first_named w k xs c.contains.result refl (search rules) (all_below_by_found (λ n. eqb n (hop_port w k)) xs 0 c.contains.result c.contains.ensures.cases)
