@@ -45,7 +45,7 @@ each_idle (q ∷ qs) e zero =
     none (x ∷ xs) h = absurd (omega arith)
 each_idle (q ∷ qs) e (suc p) = each_idle qs (and_parts (idle q) (all_idle qs) e).1 p
 
-replicated : {X : Type 0} (n i : ℕ) (x d : X) → i < n → get_or (replicate n x) i d ≡ x
+pub replicated : {X : Type 0} (n i : ℕ) (x d : X) → i < n → get_or (replicate n x) i d ≡ x
 replicated zero i x d h = absurd (omega arith)
 replicated (suc n) zero x d h = refl
 replicated (suc n) (suc i) x d h = replicated n i x d (omega arith)

@@ -3,9 +3,11 @@ use Rattle.std.specs.Prelude.{◌≡◌, ℕ, ◌<◌, true, false, cond, List, 
 use Rattle.draft.specs.Plans.{no_port, port_at}
 use Rattle.draft.specs.declared.parts.Parts.{Parts}
 use Rattle.draft.specs.declared.port.Port.{Port}
+use denote.Ref.{Bor}
+use Rattle.regulator.specs.declared.regulator.Regulator.{Regulator}
 use Rattle.service.specs.declared.frame.Frame.{Frame}
 use Rattle.model.specs.Networks.{gated}
-use Rattle.network.specs.Views.{Net, number}
+use Rattle.network.specs.Views.{Net, number, regulator_in}
 
 -- a port's figures, and 0 for what is no port
 abbrev pub port_figures : Net → ℕ → Port
@@ -23,3 +25,8 @@ regulator_line N f k = N.state.waiting f k
 abbrev pub NumberOf : Parts → ℕ → ℕ → Option ℕ → Type 0
 NumberOf P f k None = gated P f k ≡ false
 NumberOf P f k (Some n) = (gated P f k ≡ true) × (n ≡ number P f k) × (n < 32) × (f < P.size.flows)
+
+-- the regulator of that number, as it stands among them; or none
+abbrev pub RegulatorOf : Parts → List Regulator → ℕ → ℕ → Option (Bor Regulator) → Type 0
+RegulatorOf P rs f k None = gated P f k ≡ false
+RegulatorOf P rs f k (Some r) = (gated P f k ≡ true) × (r.now ≡ regulator_in P rs f k) × (f < P.size.flows)

@@ -1,46 +1,40 @@
 // How a network is made.
-ghost use Rattle.std.specs.Prelude.{◌≡◌, ℕ, ◌<◌, slice_index};
+ghost use Rattle.std.specs.Prelude.{◌≡◌, ℕ, ◌<◌, replicate, slice_index};
 ghost use Rattle.draft.specs.Plans.{port_at};
 ghost use Rattle.plan.specs.Limits.{regulators_of};
+ghost use Rattle.cabinet.specs.Model.{port_in};
+ghost use Rattle.regulator.specs.Regulators.{fresh_regulator};
 ghost use Rattle.network.specs.Makes.{Opened, matches, opens, same_figures};
 ghost use Rattle.network.specs.Views.{net_of};
 
 use super::Network;
 use cabinet::Cabinet;
-use draft::Port;
 use draft::limits::MOST_FLOWS;
 use plan::Plan;
 use regulator::Regulator;
+use std::array;
 
-fn same_figures(a: Port, b: Port) -> bool
-    ensures { result ≡ same_figures a b }
+// Whether port p of the cabinet has the plan's figures.
+fn same_port<C: Cabinet>(plan: &Plan, cabinet: &C, p: usize) -> bool
+    requires { p < plan.now.parts.size.ports }
+    ensures { result ≡ same_figures (port_in (C.Cabinet.model cabinet.now) p).figures (port_at plan.now.parts p) }
 {
-    a.rate == b.rate && a.latency == b.latency && a.stay == b.stay && a.shortest == b.shortest
+    cabinet.figures(p) == plan.parts.ports[p]
 }
 
 // Whether the cabinet's ports are the plan's.
 fn agrees<C: Cabinet>(plan: &Plan, cabinet: &C) -> bool
     ensures { result ≡ matches plan.now.parts (C.Cabinet.model cabinet.now) }
 {
-    if cabinet.ports() != plan.parts.size.ports {
-        return false;
-    }
-    for p in 0..plan.parts.size.ports {
-        if !same_figures(cabinet.figures(p), plan.parts.ports[p]) {
-            return false;
-        }
-    }
-    true
+    let ports = plan.parts.size.ports;
+    cabinet.ports() == ports && (0..ports).all(|p| same_port(plan, cabinet, p))
 }
 
 // Whether a network of this plan and this cabinet is open.
 fn fits<C: Cabinet>(plan: &Plan, cabinet: &C) -> bool
     ensures { result ≡ opens plan.now.parts (C.Cabinet.model cabinet.now) }
 {
-    if !cabinet.fresh() {
-        return false;
-    }
-    agrees(plan, cabinet)
+    cabinet.fresh() && agrees(plan, cabinet)
 }
 
 // The number of each flow's first regulator.
@@ -56,6 +50,13 @@ fn firsts(plan: &Plan) -> [usize; MOST_FLOWS]
     found
 }
 
+// Regulators into which nothing has been put.
+fn fresh_regulators() -> [Regulator; 32]
+    ensures { result ≡ replicate 32 fresh_regulator }
+{
+    array::from_fn(|_| Regulator::new())
+}
+
 impl<C: Cabinet> Network<C> {
     // A network of this plan and this cabinet: open where the cabinet is fresh and its ports are the plan's, else closed.
     pub fn new(plan: Plan, cabinet: C) -> Network<C>
@@ -69,7 +70,7 @@ impl<C: Cabinet> Network<C> {
             cabinet,
             open,
             levels: [u32::MAX; MOST_FLOWS],
-            regulators: [Regulator::new(); 32],
+            regulators: fresh_regulators(),
             firsts,
         }
     }

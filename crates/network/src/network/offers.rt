@@ -47,6 +47,7 @@ impl<C: Cabinet> Network<C> {
             entry: 0,
             due: 0,
         };
+        // No `?`, since the fault is told with the flow; with `map_err` and a closure the proof did not close.
         match self.cabinet.put(w.path.ports[0] as usize, frame) {
             Err(fault) => Err(turned_away(flow, fault)),
             Ok(_) => {

@@ -1,12 +1,13 @@
 // Questions: what the network and its cabinet tell, and change nothing by it.
 ghost use Rattle.std.specs.Prelude.{◌≡◌, length};
 ghost use Rattle.cabinet.specs.Model.{frame_in};
-ghost use Rattle.network.specs.Questions.{NumberOf, port_figures, regulator_level, regulator_line};
+ghost use Rattle.network.specs.Questions.{NumberOf, RegulatorOf, port_figures, regulator_level, regulator_line};
 ghost use Rattle.network.specs.Views.{net_of};
 
 use super::Network;
 use cabinet::Cabinet;
 use draft::Port;
+use regulator::Regulator;
 use service::Frame;
 
 impl<C: Cabinet> Network<C> {
@@ -85,14 +86,20 @@ impl<C: Cabinet> Network<C> {
         }
     }
 
+    // The regulator before a hop of a flow, or none.
+    fn regulator(&self, flow: usize, hop: usize) -> Option<&Regulator>
+        ensures { RegulatorOf self.now.plan.parts self.now.regulators flow hop result }
+    {
+        let n = self.number(flow, hop)?;
+        Some(&self.regulators[n])
+    }
+
     // A regulator's level.
     pub fn regulator_level(&self, flow: usize, hop: usize) -> u32
         ensures { result ≡ regulator_level (net_of C.Cabinet.model self.now) flow hop }
     {
-        match self.number(flow, hop) {
-            Some(n) => self.regulators[n]
-                .level
-                .min(self.plan.parts.flows[flow].burst),
+        match self.regulator(flow, hop) {
+            Some(regulator) => regulator.level.min(self.plan.parts.flows[flow].burst),
             None => 0,
         }
     }
@@ -101,19 +108,14 @@ impl<C: Cabinet> Network<C> {
     pub fn regulator_waiting(&self, flow: usize, hop: usize) -> usize
         ensures { result ≡ length (regulator_line (net_of C.Cabinet.model self.now) flow hop) }
     {
-        match self.number(flow, hop) {
-            Some(n) => self.regulators[n].len(),
-            None => 0,
-        }
+        self.regulator(flow, hop)
+            .map_or(0, |regulator| regulator.len())
     }
 
     // The i-th frame that waits at a regulator, counted from the first.
     pub fn regulator_frame(&self, flow: usize, hop: usize, i: usize) -> Option<Frame>
         ensures { result ≡ frame_in (regulator_line (net_of C.Cabinet.model self.now) flow hop) i }
     {
-        match self.number(flow, hop) {
-            Some(n) => self.regulators[n].frame(i),
-            None => None,
-        }
+        self.regulator(flow, hop)?.frame(i)
     }
 }

@@ -1,9 +1,10 @@
 // What joins a regulator, what it lets out, and how its level rises.
-ghost use Rattle.std.specs.Prelude.{◌≡◌, min, length};
+ghost use Rattle.std.specs.Prelude.{◌≡◌, ◌≤◌, length, is_ok, IfErr};
 ghost use Rattle.cabinet.specs.Model.{frame_in};
 ghost use Rattle.regulator.specs.Regulators.{fresh_regulator, held, join_after, join_answer, out_after, out_answer, rise_after};
 
 use super::Regulator;
+use arrayvec::ArrayVec;
 use service::Frame;
 
 impl Regulator {
@@ -11,50 +12,37 @@ impl Regulator {
     pub fn new() -> Regulator
         ensures { result ≡ fresh_regulator }
     {
-        let frame = Frame {
-            flow: 0,
-            hop: 0,
-            len: 0,
-            origin: 0,
-            entry: 0,
-            due: 0,
-        };
         Regulator {
             level: u32::MAX,
-            frames: [frame; 16],
-            waiting: 0,
+            line: ArrayVec::new(),
         }
     }
 
     // How many frames wait.
     pub fn len(&self) -> usize
         ensures value { result ≡ length (held self.now).line }
-        ensures capped { result ≡ min self.now.waiting 16 }
+        ensures few { result ≤ 16 }
     {
-        let _first = self.frames[0];
-        self.waiting.min(16)
+        self.line.len()
     }
 
     // The i-th frame that waits, counted from the first.
     pub fn frame(&self, i: usize) -> Option<Frame>
         ensures { result ≡ frame_in (held self.now).line i }
     {
-        let n = self.len();
-        if i < n { Some(self.frames[i]) } else { None }
+        self.line.as_slice().get(i).copied()
     }
 
     // The frame joins at the end of the line; or, where 16 wait, it is turned away.
-    pub fn join(&mut self, frame: Frame) -> bool
-        ensures answer { result ≡ join_answer (held self.old) }
+    pub fn join(&mut self, frame: Frame) -> Result<(), Frame>
+        ensures answer { is_ok result ≡ join_answer (held self.old) }
+        ensures back { IfErr result (λ x. x ≡ frame) }
         ensures after { held self.new ≡ join_after (held self.old) frame }
     {
-        let n = self.len();
-        if n >= 16 {
-            return false;
+        match self.line.try_push(frame) {
+            Ok(()) => Ok(()),
+            Err(full) => Err(full.element()),
         }
-        self.frames[n] = frame;
-        self.waiting = n + 1;
-        true
     }
 
     // The first frame, if the level, at most the burst, covers its length; that lowers the level by it.
@@ -62,26 +50,20 @@ impl Regulator {
         ensures answer { result ≡ out_answer burst (held self.old) }
         ensures after { held self.new ≡ out_after burst (held self.old) }
     {
-        let n = self.len();
-        if n == 0 {
-            return None;
-        }
-        let first = self.frames[0];
+        let first = self.frame(0)?;
         let level = self.level.min(burst);
         if first.len > level {
             return None;
         }
         self.level = level - first.len;
-        self.frames.rotate_left(1);
-        self.waiting = n - 1;
-        Some(first)
+        Some(self.line.remove(0))
     }
 
     // A slot later: the level has risen by the rate, at most to the burst.
     pub fn rise(&mut self, rate: u32, burst: u32)
         ensures { held self.new ≡ rise_after (held self.old) rate burst }
     {
-        let level = (self.level as u64 + rate as u64).min(burst as u64);
+        let level = (u64::from(self.level) + u64::from(rate)).min(u64::from(burst));
         self.level = level as u32;
     }
 }

@@ -7,5 +7,5 @@ returns-in-Some g c =
     let w = c.args.self.now in
     let P = w.plan.parts in
     let told = c.in-Some.ensures in
-    regulator_level_is P (kept_of P w.plan.kept) w.levels w.regulators c.args.flow c.args.hop c.in-Some.n c.min.result
-    told.3 told.0 told.1 c.min.ensures
+    regulator_level_is P (kept_of P w.plan.kept) w.levels w.regulators c.args.flow c.args.hop c.min.result c.in-Some.regulator.now
+    told.2 told.0 told.1 c.min.ensures
