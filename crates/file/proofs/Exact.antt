@@ -1,5 +1,5 @@
 -- A file that reads is the file of what it says.
-use Rattle.std.proofs.Common.{◌≡◌, ℕ, zero, suc, ◌+◌, ◌*◌, ◌/◌, ◌%◌, ◌<◌, ◌≤◌, Bool, true, false, cond, ◌&&◌, eqb, ltb, ◌≢◌, ◌⊎◌, List, [], ◌∷◌, ◌++◌, length, get_or, drop, set, None, Ok, Err, Result, sym, refl, ap, ◌∙◌, subst, inl, inr, add-one, arith}
+use Rattle.std.proofs.Common.{◌≡◌, ℕ, zero, suc, ◌+◌, ◌*◌, ◌/◌, ◌%◌, ◌<◌, ◌≤◌, Bool, true, false, cond, ◌&&◌, eqb, ltb, ◌≢◌, ◌⊎◌, List, [], ◌∷◌, ◌++◌, length, get_or, drop, set, Ok, Err, Result, sym, refl, ap, ◌∙◌, subst, inl, inr, add-one, arith}
 use native.Mathlib.Decide.{ℕ_discrete}
 use Rattle.std.proofs.lemmas.List.{append_assoc, append-nil, drop_all, get_or-drop, get_or-set_other, get_or-set_same, length-set}
 use Rattle.std.proofs.lemmas.Bool.{and_parts, eqb-true, ltb-false, ltb-true}
@@ -10,8 +10,10 @@ use Rattle.draft.specs.declared.flow.Flow.{Flow}
 use Rattle.draft.specs.declared.port.Port.{Port}
 use Rattle.draft.specs.declared.table.Row.{Row}
 use Rattle.file.specs.Counts.{flows, ports, rows}
-use Rattle.file.specs.Reads.{end_answer, flow_answer, port_answer, read, record_size, row_answer, sized_answer, then_read, whole_draft, with_flow, with_port, with_row}
-use Rattle.file.specs.Records.{row_kind, end_kind, flow_kind, port_kind, body_length, flow_of, number_at, port_of, row_flow, row_of}
+use Rattle.file.specs.Additions.{with_flow, with_port, with_row}
+use Rattle.file.specs.Kinds.{end_kind, flow_kind, kind_of, port_kind, row_kind}
+use Rattle.file.specs.Reads.{end_answer, flow_answer, kind_answer, kind_draft, kind_size, port_answer, read, row_answer, then_read}
+use Rattle.file.specs.Records.{flow_of, number_at, port_of, row_flow, row_of}
 use Rattle.file.specs.Writes.{bytes_of, encoded, end_record, flow_bytes, flow_record, front, port_bytes, port_record, records, row_bytes, row_record}
 use Rattle.file.specs.declared.fault.FileFault.{FileFault}
 use Rattle.file.specs.declared.fault.FileFault.TheVariants.{Count, Cut, Excess, Order, Trailing}
@@ -239,15 +241,13 @@ ends_end k e d at body b h =
           ap (λ l. front d ++ l) (sym (end_record_of (ports d + flows d + rows d) body b s.1 s.0)) ∙ ap encoded hd
     ]
 
--- a kind that does not exist
-no_length : (kind : ℕ) → (kind ≡ port_kind → ⊥) → (kind ≡ flow_kind → ⊥) → (kind ≡ row_kind → ⊥) → (kind ≡ end_kind → ⊥) → body_length kind ≡ None
-no_length kind p f b e = grind (arith, nat_tests)
+-- a byte that is no letter
+no_kind : (byte : ℕ) → (byte ≡ port_kind → ⊥) → (byte ≡ flow_kind → ⊥) → (byte ≡ row_kind → ⊥) → (byte ≡ end_kind → ⊥) → kind_of byte ≡ Err (record { 0 = byte })
+no_kind byte p f b e = grind (arith, nat_tests)
 
-ends_none : (k : ℕ) (e d : Draft) (at kind : ℕ) (body : List ℕ) → body_length kind ≡ None → reads (suc k) d at (kind ∷ body) ≡ Ok e → ⊥
-ends_none k e d at kind body n h =
-    let next = whole_draft d kind body in
-    let size = record_size (kind ∷ body) in
-    let r = sym (ap (λ o. then_read (sized_answer d at kind body o) next (reads k next (at + size) (drop size (kind ∷ body)))) n) ∙ h in
+ends_none : (k : ℕ) (e d : Draft) (at byte : ℕ) (body : List ℕ) → kind_of byte ≡ Err (record { 0 = byte }) → reads (suc k) d at (byte ∷ body) ≡ Ok e → ⊥
+ends_none k e d at byte body n h =
+    let r = sym (ap (λ o. then_read (kind_answer d at o body) (kind_draft d o body) (reads k (kind_draft d o body) (at + kind_size o) (drop (kind_size o) (byte ∷ body)))) n) ∙ h in
     let z : ◌≡◌ {A = ℕ} 0 1 = cc in
     omega arith
 
@@ -262,7 +262,7 @@ ends_record k e ends d at kind body room b =
           | yes p ↦ subst Goal (sym p) (ends_row k e ends d at body room b)
           | no nb ↦ elim (ℕ_discrete kind end_kind) [
             | yes p ↦ subst Goal (sym p) (ends_end k e d at body b)
-            | no ne ↦ λ h. absurd (ends_none k e d at kind body (no_length kind np nf nb ne) h)
+            | no ne ↦ λ h. absurd (ends_none k e d at kind body (no_kind kind np nf nb ne) h)
           ]
         ]
       ]
