@@ -1,4 +1,4 @@
--- A file taken apart at a place: the bytes from there on, the kind, the body.
+-- The records of a file, one at a time.
 use Rattle.std.proofs.Common.{◌≡◌, ℕ, suc, ◌+◌, ◌-◌, ◌<◌, List, drop, ap, arith}
 use Rattle.draft.specs.declared.draft.Draft.{Draft}
 use Rattle.file.specs.Reads.{read_from, record_answer, record_draft, record_size, then_read}

@@ -16,9 +16,6 @@ pub whole_place : (w : Writer) → w.place.now ≡ done w ++ left w
 unfolding done left
 whole_place w = sym (take-append-drop w.at w.place.now)
 
-pub wrote_as : {a b : Writer} {s : List ℕ} → Wrote a s b → (t : List ℕ) → s ≡ t → Wrote a t b
-wrote_as {a = a} o t e = record { more = o.more ∙ ap (λ l. done a ++ l) e; rest = o.rest ∙ ap (λ l. drop (length l) (left a)) e }
-
 -- bytes, and then more
 pub wrote_more : {a b c : Writer} {s t : List ℕ} → Wrote a s b → Wrote b t c → (u : List ℕ) → s ++ t ≡ u → Wrote a u c
 wrote_more {a = a} {s = s} {t = t} o p u e =

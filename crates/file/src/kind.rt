@@ -4,7 +4,7 @@ ghost use Rattle.file.specs.Kinds.{Decodes, body_length, letter};
 
 // What a record holds: a port, a flow, a burst row, or the end.
 #[derive(Clone, Copy, Debug, PartialEq, Eq)]
-pub enum Kind {
+pub(crate) enum Kind {
     Port,
     Flow,
     Row,
@@ -13,7 +13,7 @@ pub enum Kind {
 
 // A byte that is the letter of no kind.
 #[derive(Clone, Copy, Debug, PartialEq, Eq)]
-pub struct UnknownKind(pub u8);
+pub(crate) struct UnknownKind(u8);
 
 impl TryFrom<u8> for Kind {
     type Error = UnknownKind;
@@ -33,7 +33,7 @@ impl TryFrom<u8> for Kind {
 
 impl Kind {
     // The letter that stands at the front of a record.
-    pub fn letter(self) -> u8
+    pub(crate) fn letter(self) -> u8
         ensures { result ≡ letter self }
     {
         match self {
@@ -45,7 +45,7 @@ impl Kind {
     }
 
     // How many bytes follow the letter.
-    pub fn body_length(self) -> usize
+    pub(crate) fn body_length(self) -> usize
         ensures { result ≡ body_length self }
     {
         match self {
