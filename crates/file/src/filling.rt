@@ -1,5 +1,5 @@
 // A draft, filled record by record: which kind may come, and how many.
-ghost use Rattle.std.specs.Prelude.{◌≡◌, ◌+◌, ◌^◌, ◌<◌, ◌≤◌, length, is_ok, if◌then◌else◌, OnOk};
+ghost use Rattle.std.specs.Prelude.{◌≡◌, ◌+◌, ◌^◌, ◌<◌, ◌≤◌, length, is_ok, nat_lt, slice_set, if◌then◌else◌, Ok, Err, OnOk};
 ghost use Rattle.draft.specs.Plans.{empty_draft};
 ghost use Rattle.file.specs.Additions.{with_flow, with_port, with_row};
 ghost use Rattle.file.specs.Counts.{Few};
@@ -10,8 +10,26 @@ use crate::fault::FileFault;
 use crate::fields;
 use crate::kind::Kind;
 use crate::reader::Progress;
-use draft::limits::{MOST_FLOWS, MOST_PORTS};
 use draft::{Draft, Flow, Port, Row};
+
+// One more behind the first `count`, where a place is left.
+fn append<T: Copy>(
+    places: &mut [T],
+    count: &mut usize,
+    at: usize,
+    item: T,
+) -> Result<Progress, FileFault>
+    ensures answer { result ≡ (if nat_lt count.old (length places.old) then Ok Progress.More else Err (FileFault.Excess at)) }
+    ensures places { places.new ≡ (if is_ok result then slice_set places.old count.old item else places.old) }
+    ensures count { count.new ≡ (if is_ok result then count.old + 1 else count.old) }
+{
+    if *count >= places.len() {
+        return Err(FileFault::Excess(at));
+    }
+    places[*count] = item;
+    *count += 1;
+    Ok(Progress::More)
+}
 
 // A draft that holds no more than a file may.
 #[derive(Drop)]
@@ -38,13 +56,8 @@ impl Filling {
         if self.draft.parts.size.flows != 0 || self.draft.proposal.rows != 0 {
             return Err(FileFault::Order(at));
         }
-        let n = self.draft.parts.size.ports;
-        if n >= MOST_PORTS {
-            return Err(FileFault::Excess(at));
-        }
-        self.draft.parts.ports[n] = port;
-        self.draft.parts.size.ports = n + 1;
-        Ok(Progress::More)
+        let parts = &mut self.draft.parts;
+        append(&mut parts.ports, &mut parts.size.ports, at, port)
     }
 
     // One flow more.
@@ -55,13 +68,8 @@ impl Filling {
         if self.draft.proposal.rows != 0 {
             return Err(FileFault::Order(at));
         }
-        let n = self.draft.parts.size.flows;
-        if n >= MOST_FLOWS {
-            return Err(FileFault::Excess(at));
-        }
-        self.draft.parts.flows[n] = flow;
-        self.draft.parts.size.flows = n + 1;
-        Ok(Progress::More)
+        let parts = &mut self.draft.parts;
+        append(&mut parts.flows, &mut parts.size.flows, at, flow)
     }
 
     // One row more, of this flow.
@@ -69,16 +77,11 @@ impl Filling {
         ensures answer { result ≡ row_answer self.old.draft at flow }
         ensures after { self.new.draft ≡ (if is_ok result then with_row self.old.draft row else self.old.draft) }
     {
-        let n = self.draft.proposal.rows;
-        if usize::from(flow) != n {
+        let proposal = &mut self.draft.proposal;
+        if usize::from(flow) != proposal.rows {
             return Err(FileFault::Order(at));
         }
-        if n >= MOST_FLOWS {
-            return Err(FileFault::Excess(at));
-        }
-        self.draft.proposal.table.rows[n] = row;
-        self.draft.proposal.rows = n + 1;
-        Ok(Progress::More)
+        append(&mut proposal.table.rows, &mut proposal.rows, at, row)
     }
 
     // The end record: it tells how many records came before it, and nothing comes after it.
