@@ -55,6 +55,7 @@ abbrev pub record_answer : Draft → ℕ → List ℕ → Result Progress FileFa
 record_answer d at [] = Err (Cut at)
 record_answer d at (byte ∷ body) = kind_answer d at (kind_of byte) body
 
+-- the draft after it
 abbrev pub kind_draft : Draft → Result Kind UnknownKind → List ℕ → Draft
 kind_draft d (Err e) body = d
 kind_draft d (Ok kind) body = whole_draft d kind body

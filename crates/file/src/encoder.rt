@@ -51,9 +51,7 @@ pub fn encode(draft: &Draft, place: &mut [u8]) -> Option<usize>
     ensures after { place.new ≡ encode_after draft.now place.old }
     ensures back { is_some result ≡ true → read (encoded draft.now) ≡ Ok (tidied draft.now) }
 {
-    let Some(size) = file_size(draft) else {
-        return None;
-    };
+    let size = file_size(draft)?;
     if place.len() < size {
         return None;
     }
