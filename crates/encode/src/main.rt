@@ -2,7 +2,7 @@
 #![tactic(auto)]
 
 use anyhow::{bail, ensure};
-use draft::limits::{MOST_FLOWS, MOST_HOPS, MOST_PORTS, UNUSED};
+use draft::limits::{MOST_HOPS, UNUSED};
 use draft::{Draft, Flow, Mask, Path, Port, Row};
 use file::encode;
 use std::alloc::Global;
@@ -29,8 +29,10 @@ fn add_port(draft: &mut Draft, numbers: &[u32]) -> anyhow::Result<()> {
         bail!("PORT takes rate, latency, least stay and shortest frame");
     };
     let n = draft.parts.size.ports;
-    ensure!(n < MOST_PORTS, "there are more than 32 ports");
-    draft.parts.ports[n] = Port {
+    let Some(place) = draft.parts.ports.get_mut(n) else {
+        bail!("there are more than 32 ports");
+    };
+    *place = Port {
         rate,
         latency,
         stay,
@@ -58,11 +60,13 @@ fn add_flow(draft: &mut Draft, numbers: &[u32]) -> anyhow::Result<()> {
         bail!("FLOW takes rate, burst, shortest and longest frame, mask and the path's ports");
     };
     let n = draft.parts.size.flows;
-    ensure!(n < MOST_FLOWS, "there are more than 64 flows");
+    let Some(place) = draft.parts.flows.get_mut(n) else {
+        bail!("there are more than 64 flows");
+    };
     let mask = Mask {
         bits: u8::try_from(bits)?,
     };
-    draft.parts.flows[n] = Flow {
+    *place = Flow {
         rate,
         burst,
         shortest,
@@ -77,10 +81,12 @@ fn add_flow(draft: &mut Draft, numbers: &[u32]) -> anyhow::Result<()> {
 fn add_row(draft: &mut Draft, numbers: &[u32]) -> anyhow::Result<()> {
     ensure!(numbers.len() <= MOST_HOPS, "ROW takes at most eight cells");
     let n = draft.proposal.rows;
-    ensure!(n < MOST_FLOWS, "there are more than 64 rows");
+    let Some(place) = draft.proposal.table.rows.get_mut(n) else {
+        bail!("there are more than 64 rows");
+    };
     let mut cells = [0; MOST_HOPS];
     cells[..numbers.len()].copy_from_slice(numbers);
-    draft.proposal.table.rows[n] = Row { cells };
+    *place = Row { cells };
     draft.proposal.rows = n + 1;
     Ok(())
 }
