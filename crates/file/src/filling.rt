@@ -12,7 +12,7 @@ use crate::kind::Kind;
 use crate::reader::Progress;
 use draft::{Draft, Flow, Port, Row};
 
-// One more behind the first `count`, where a place is left.
+// One more behind the first `count` of an array that stands in fixed memory, where a place is left.
 fn append<T: Copy>(
     places: &mut [T],
     count: &mut usize,
