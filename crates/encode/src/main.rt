@@ -1,11 +1,13 @@
 // Reads a kit as readable text on standard input and writes its plan file.
 #![tactic(auto)]
 
-use anyhow::anyhow;
-use draft::limits::{MOST_FLOWS, MOST_HOPS, MOST_PORTS, UNUSED};
+use anyhow::{bail, ensure};
+use draft::limits::{MOST_HOPS, UNUSED};
 use draft::{Draft, Flow, Mask, Path, Port, Row};
 use file::encode;
+use std::alloc::Global;
 use std::io::Write;
+use std::str::SplitWhitespace;
 
 // The most numbers on a line: four of a bucket, a mask and eight ports.
 const MOST_NUMBERS: usize = 13;
@@ -13,36 +15,24 @@ const MOST_NUMBERS: usize = 13;
 // The longest plan file.
 const LONGEST: usize = 4453;
 
-// The numbers of a line, and how many there are.
-#[derive(Clone, Copy)]
-struct Numbers {
-    values: [u32; MOST_NUMBERS],
-    count: usize,
-}
-
-fn read_numbers(text: &str) -> anyhow::Result<Numbers> {
-    let mut values = [0; MOST_NUMBERS];
-    let mut count = 0;
-    for word in text.split_whitespace().skip(1) {
-        if count >= MOST_NUMBERS {
-            return Err(anyhow!("too many numbers on a line"));
-        }
-        values[count] = word.parse::<u32>()?;
-        count += 1;
+fn read_numbers(alloc: Global, words: SplitWhitespace) -> anyhow::Result<Vec<u32>> {
+    let mut numbers = Vec::new(alloc);
+    for word in words {
+        ensure!(numbers.len() < MOST_NUMBERS, "too many numbers on a line");
+        numbers.push(word.parse::<u32>()?)?;
     }
-    Ok(Numbers { values, count })
+    Ok(numbers)
 }
 
-fn port(draft: &mut Draft, given: Numbers) -> anyhow::Result<()> {
+fn add_port(draft: &mut Draft, numbers: &[u32]) -> anyhow::Result<()> {
+    let &[rate, latency, stay, shortest] = numbers else {
+        bail!("PORT takes rate, latency, least stay and shortest frame");
+    };
     let n = draft.parts.size.ports;
-    if given.count != 4 {
-        return Err(anyhow!("PORT takes rate, latency, least stay and shortest frame"));
-    }
-    if n >= MOST_PORTS {
-        return Err(anyhow!("there are more than 32 ports"));
-    }
-    let [rate, latency, stay, shortest, ..] = given.values;
-    draft.parts.ports[n] = Port {
+    let Some(place) = draft.parts.ports.get_mut(n) else {
+        bail!("there are more than 32 ports");
+    };
+    *place = Port {
         rate,
         latency,
         stay,
@@ -52,91 +42,79 @@ fn port(draft: &mut Draft, given: Numbers) -> anyhow::Result<()> {
     Ok(())
 }
 
-// The path that begins at the sixth number.
-fn path(given: Numbers) -> anyhow::Result<Path> {
+// The path through these ports.
+fn path(numbers: &[u32]) -> anyhow::Result<Path> {
     let mut ports = [UNUSED; MOST_HOPS];
-    let mut hops = 0;
-    for k in 0..MOST_HOPS {
-        if k + 5 < given.count {
-            ports[k] = u8::try_from(given.values[k + 5])?;
-            hops = k as u8 + 1;
-        }
+    for (port, number) in ports.iter_mut().zip(numbers) {
+        *port = u8::try_from(*number)?;
     }
-    Ok(Path { hops, ports })
+    Ok(Path {
+        hops: numbers.len().min(MOST_HOPS) as u8,
+        ports,
+    })
 }
 
-fn flow(draft: &mut Draft, given: Numbers) -> anyhow::Result<()> {
+// The path begins at the sixth number.
+fn add_flow(draft: &mut Draft, numbers: &[u32]) -> anyhow::Result<()> {
+    let &[rate, burst, shortest, longest, bits, _, ..] = numbers else {
+        bail!("FLOW takes rate, burst, shortest and longest frame, mask and the path's ports");
+    };
     let n = draft.parts.size.flows;
-    if given.count < 6 {
-        return Err(anyhow!(
-            "FLOW takes rate, burst, shortest and longest frame, mask and the path's ports"
-        ));
-    }
-    if n >= MOST_FLOWS {
-        return Err(anyhow!("there are more than 64 flows"));
-    }
-    let [rate, burst, shortest, longest, bits, ..] = given.values;
+    let Some(place) = draft.parts.flows.get_mut(n) else {
+        bail!("there are more than 64 flows");
+    };
     let mask = Mask {
         bits: u8::try_from(bits)?,
     };
-    draft.parts.flows[n] = Flow {
+    *place = Flow {
         rate,
         burst,
         shortest,
         longest,
-        path: path(given)?,
+        path: path(&numbers[5..])?,
         mask,
     };
     draft.parts.size.flows = n + 1;
     Ok(())
 }
 
-fn row(draft: &mut Draft, given: Numbers) -> anyhow::Result<()> {
+fn add_row(draft: &mut Draft, numbers: &[u32]) -> anyhow::Result<()> {
+    ensure!(numbers.len() <= MOST_HOPS, "ROW takes at most eight cells");
     let n = draft.proposal.rows;
-    if given.count > MOST_HOPS {
-        return Err(anyhow!("ROW takes at most eight cells"));
-    }
-    if n >= MOST_FLOWS {
-        return Err(anyhow!("there are more than 64 rows"));
-    }
-    let [a, b, c, d, e, f, g, h, ..] = given.values;
-    draft.proposal.table.rows[n] = Row {
-        cells: [a, b, c, d, e, f, g, h],
+    let Some(place) = draft.proposal.table.rows.get_mut(n) else {
+        bail!("there are more than 64 rows");
     };
+    let mut cells = [0; MOST_HOPS];
+    cells[..numbers.len()].copy_from_slice(numbers);
+    *place = Row { cells };
     draft.proposal.rows = n + 1;
     Ok(())
 }
 
 // One line of text: a port, a flow, a row, or a remark.
-fn add(draft: &mut Draft, line: &str) -> anyhow::Result<()> {
-    let Some(kind) = line.split_whitespace().next() else {
-        return Ok(());
-    };
-    if kind == "PORT" {
-        return port(draft, read_numbers(line)?);
+fn add(alloc: Global, draft: &mut Draft, line: &str) -> anyhow::Result<()> {
+    let mut words = line.split_whitespace();
+    match words.next() {
+        None => Ok(()),
+        Some("PORT") => add_port(draft, &read_numbers(alloc, words)?),
+        Some("FLOW") => add_flow(draft, &read_numbers(alloc, words)?),
+        Some("ROW") => add_row(draft, &read_numbers(alloc, words)?),
+        Some(word) if word.starts_with('#') => Ok(()),
+        Some(_) => bail!("a line begins with PORT, FLOW, ROW or #"),
     }
-    if kind == "FLOW" {
-        return flow(draft, read_numbers(line)?);
-    }
-    if kind == "ROW" {
-        return row(draft, read_numbers(line)?);
-    }
-    if kind.starts_with('#') {
-        return Ok(());
-    }
-    Err(anyhow!("a line begins with PORT, FLOW, ROW or #"))
 }
 
 fn run(rt: &HostRuntime) -> anyhow::Result<()> {
     let mut draft = Draft::empty();
-    for line in rt.lines(rt.alloc()) {
-        add(&mut draft, line?.as_str())?;
+    let alloc = rt.alloc();
+    for line in rt.lines(alloc) {
+        add(alloc, &mut draft, line?.as_str())?;
     }
     let mut place = [0; LONGEST];
-    match encode(&draft, &mut place) {
-        Some(size) if size <= LONGEST => rt.stdout().write_all(&place[0..size])?,
-        _ => return Err(anyhow!("no plan file can hold this")),
-    }
+    let Some(size) = encode(&draft, &mut place) else {
+        bail!("no plan file can hold this");
+    };
+    rt.stdout().write_all(&place[..size])?;
     Ok(())
 }
 

@@ -1,8 +1,7 @@
 -- A file that reads is the file of what it says.
-use Rattle.std.proofs.Common.{◌≡◌, ℕ, zero, suc, ◌+◌, ◌*◌, ◌/◌, ◌%◌, ◌<◌, ◌≤◌, Bool, true, false, cond, ◌&&◌, eqb, ltb, ◌≢◌, ◌⊎◌, List, [], ◌∷◌, ◌++◌, length, get_or, drop, set, None, Ok, Err, Result, sym, refl, ap, ◌∙◌, subst, inl, inr, add-one, arith}
+use Rattle.std.proofs.Common.{◌≡◌, ℕ, zero, suc, ◌+◌, ◌*◌, ◌/◌, ◌%◌, ◌<◌, ◌≤◌, cond, ltb, ◌≢◌, List, [], ◌∷◌, ◌++◌, length, get_or, drop, set, Ok, Err, Result, sym, refl, ap, ◌∙◌, subst, add-one, arith}
 use native.Mathlib.Decide.{ℕ_discrete}
 use Rattle.std.proofs.lemmas.List.{append_assoc, append-nil, drop_all, get_or-drop, get_or-set_other, get_or-set_same, length-set}
-use Rattle.std.proofs.lemmas.Bool.{and_parts, eqb-true, ltb-false, ltb-true}
 use Rattle.std.proofs.lemmas.Bool.Decides.{nat_tests}
 use Rattle.draft.specs.Plans.{empty_draft, no_flow, no_port, no_row}
 use Rattle.draft.specs.declared.draft.Draft.{Draft}
@@ -10,13 +9,13 @@ use Rattle.draft.specs.declared.flow.Flow.{Flow}
 use Rattle.draft.specs.declared.port.Port.{Port}
 use Rattle.draft.specs.declared.table.Row.{Row}
 use Rattle.file.specs.Counts.{flows, ports, rows}
-use Rattle.file.specs.Reads.{end_answer, flow_answer, port_answer, read, record_size, row_answer, sized_answer, then_read, whole_draft, with_flow, with_port, with_row}
-use Rattle.file.specs.Records.{row_kind, end_kind, flow_kind, port_kind, body_length, flow_of, number_at, port_of, row_flow, row_of}
+use Rattle.file.specs.Additions.{with_flow, with_port, with_row}
+use Rattle.file.specs.Kinds.{end_kind, flow_kind, kind_of, port_kind, row_kind}
+use Rattle.file.specs.Reads.{end_answer, flow_answer, kind_answer, kind_draft, kind_size, port_answer, read, row_answer, then_read}
+use Rattle.file.specs.Records.{flow_of, number_at, port_of, row_flow, row_of}
 use Rattle.file.specs.Writes.{bytes_of, encoded, end_record, flow_bytes, flow_record, front, port_bytes, port_record, records, row_bytes, row_record}
 use Rattle.file.specs.declared.fault.FileFault.{FileFault}
-use Rattle.file.specs.declared.fault.FileFault.TheVariants.{Count, Cut, Excess, Order, Trailing}
-use Rattle.file.specs.declared.reader.Progress.{Progress}
-use Rattle.file.specs.declared.reader.Progress.TheVariants.{Done, More}
+use Rattle.file.specs.declared.fault.FileFault.TheVariants.{Cut}
 use Rattle.file.proofs.Returning.{listed, read_from_reads, reads}
 
 -- every number is a byte
@@ -128,20 +127,6 @@ front_with_row d x h =
     ap (λ s. P ++ (F ++ s)) (records_set (λ k y. row_record k y) d.proposal.table.rows (rows d) x no_row h)
     ∙ simp append_assoc
 
--- what an answer without a refusal tells
-not_refused : (b : Bool) (x : FileFault) (a : Result Progress FileFault) (p : Progress) → cond b (Err x) a ≡ Ok p → (b ≡ false) × (a ≡ Ok p)
-not_refused true x a p h = let z : ◌≡◌ {A = ℕ} 0 1 = cc in absurd (omega arith)
-not_refused false x a p h = (refl, h)
-
-allowed : (b : Bool) (a : Result Progress FileFault) (x : FileFault) (p : Progress) → cond b a (Err x) ≡ Ok p → (b ≡ true) × (a ≡ Ok p)
-allowed true a x p h = (refl, h)
-allowed false a x p h = let z : ◌≡◌ {A = ℕ} 0 1 = cc in absurd (omega arith)
-
-read_on : (a : Result Progress FileFault) (d e : Draft) (next : Result Draft FileFault) → then_read a d next ≡ Ok e → ((a ≡ Ok More) × (next ≡ Ok e)) ⊎ ((a ≡ Ok Done) × (d ≡ e))
-read_on (Err x) d e next h = let z : ◌≡◌ {A = ℕ} 0 1 = cc in absurd (omega arith)
-read_on (Ok Done) d e next h = inr (refl, cc)
-read_on (Ok More) d e next h = inl (refl, h)
-
 -- what k records more make of a file, if they end it
 abbrev Ends : ℕ → Draft → Type 0
 Ends k e = (d : Draft) (at : ℕ) (rest : List ℕ) → Roomy d → Bytes rest → reads k d at rest ≡ Ok e → front d ++ rest ≡ encoded e
@@ -152,104 +137,61 @@ behind k e d next at r rest whole ends room b hw hf h =
     ap (λ s. front d ++ s) (sym hw)
     ∙ (sym (append_assoc (front d) r rest) ∙ (ap (λ s. s ++ rest) (sym hf) ∙ ends next at rest room b h))
 
--- what the records that are not refused have kept
-port_kept : (d : Draft) (at : ℕ) (body : List ℕ) (p : Progress) → cond (ltb (length body) 16) (Err (Cut at)) (port_answer d at) ≡ Ok p
-    → (16 ≤ length body) × (flows d ≡ 0) × (rows d ≡ 0) × (ports d < 32) × (More ≡ p)
-port_kept d at body p h =
-    let long = not_refused (ltb (length body) 16) (Cut at) (port_answer d at) p h in
-    let order = allowed (eqb (flows d) 0 && eqb (rows d) 0) (cond (ltb (ports d) 32) (Ok More) (Err (Excess at))) (Order at) p long.1 in
-    let few = allowed (ltb (ports d) 32) (Ok More) (Excess at) p order.1 in
-    let none = and_parts (eqb (flows d) 0) (eqb (rows d) 0) order.0 in
-    let more = few.1 in
-    (ltb-false (length body) 16 long.0, eqb-true (flows d) 0 none.0, eqb-true (rows d) 0 none.1, ltb-true (ports d) 32 few.0, cc)
+-- a record that is not refused has kept its kind's rules, and what follows is read
+port_kept : (d after e : Draft) (at : ℕ) (body : List ℕ) (next : Result Draft FileFault) → then_read (cond (ltb (length body) 16) (Err (Cut at)) (port_answer d at)) after next ≡ Ok e
+    → (16 ≤ length body) × (flows d ≡ 0) × (rows d ≡ 0) × (ports d < 32) × (next ≡ Ok e)
+port_kept d after e at body next h = grind (arith, nat_tests)
 
-flow_kept : (d : Draft) (at : ℕ) (body : List ℕ) (p : Progress) → cond (ltb (length body) 26) (Err (Cut at)) (flow_answer d at) ≡ Ok p
-    → (26 ≤ length body) × (rows d ≡ 0) × (flows d < 64) × (More ≡ p)
-flow_kept d at body p h =
-    let long = not_refused (ltb (length body) 26) (Cut at) (flow_answer d at) p h in
-    let order = allowed (eqb (rows d) 0) (cond (ltb (flows d) 64) (Ok More) (Err (Excess at))) (Order at) p long.1 in
-    let few = allowed (ltb (flows d) 64) (Ok More) (Excess at) p order.1 in
-    let more = few.1 in
-    (ltb-false (length body) 26 long.0, eqb-true (rows d) 0 order.0, ltb-true (flows d) 64 few.0, cc)
+flow_kept : (d after e : Draft) (at : ℕ) (body : List ℕ) (next : Result Draft FileFault) → then_read (cond (ltb (length body) 26) (Err (Cut at)) (flow_answer d at)) after next ≡ Ok e
+    → (26 ≤ length body) × (rows d ≡ 0) × (flows d < 64) × (next ≡ Ok e)
+flow_kept d after e at body next h = grind (arith, nat_tests)
 
-row_kept : (d : Draft) (at : ℕ) (body : List ℕ) (p : Progress) → cond (ltb (length body) 33) (Err (Cut at)) (row_answer d at (row_flow body)) ≡ Ok p
-    → (33 ≤ length body) × (row_flow body ≡ rows d) × (rows d < 64) × (More ≡ p)
-row_kept d at body p h =
-    let long = not_refused (ltb (length body) 33) (Cut at) (row_answer d at (row_flow body)) p h in
-    let order = allowed (eqb (row_flow body) (rows d)) (cond (ltb (rows d) 64) (Ok More) (Err (Excess at))) (Order at) p long.1 in
-    let few = allowed (ltb (rows d) 64) (Ok More) (Excess at) p order.1 in
-    let more = few.1 in
-    (ltb-false (length body) 33 long.0, eqb-true (row_flow body) (rows d) order.0, ltb-true (rows d) 64 few.0, cc)
+row_kept : (d after e : Draft) (at : ℕ) (body : List ℕ) (next : Result Draft FileFault) → then_read (cond (ltb (length body) 33) (Err (Cut at)) (row_answer d at (row_flow body))) after next ≡ Ok e
+    → (33 ≤ length body) × (row_flow body ≡ rows d) × (rows d < 64) × (next ≡ Ok e)
+row_kept d after e at body next h = grind (arith, nat_tests)
 
-end_kept : (d : Draft) (at : ℕ) (body : List ℕ) (p : Progress) → cond (ltb (length body) 4) (Err (Cut at)) (end_answer d at body) ≡ Ok p
-    → (number_at body 0 ≡ ports d + flows d + rows d) × (length body ≡ 4) × (Done ≡ p)
-end_kept d at body p h =
-    let long = not_refused (ltb (length body) 4) (Cut at) (end_answer d at body) p h in
-    let count = allowed (eqb (number_at body 0) (ports d + flows d + rows d)) (cond (eqb (length body) 4) (Ok Done) (Err (Trailing (at + 5)))) (Count at) p long.1 in
-    let last = allowed (eqb (length body) 4) (Ok Done) (Trailing (at + 5)) p count.1 in
-    let done = last.1 in
-    (eqb-true (number_at body 0) (ports d + flows d + rows d) count.0, eqb-true (length body) 4 last.0, cc)
-
-more_not_done : More ≡ Done → ⊥
-more_not_done h = let z : ◌≡◌ {A = ℕ} 0 1 = cc in omega arith
+end_kept : (d e : Draft) (at : ℕ) (body : List ℕ) (next : Result Draft FileFault) → then_read (cond (ltb (length body) 4) (Err (Cut at)) (end_answer d at body)) d next ≡ Ok e
+    → (number_at body 0 ≡ ports d + flows d + rows d) × (length body ≡ 4) × (d ≡ e)
+end_kept d e at body next h = grind (arith, nat_tests)
 
 -- one record, by its kind
 ends_port : (k : ℕ) (e : Draft) → Ends k e → (d : Draft) (at : ℕ) (body : List ℕ) → Roomy d → Bytes body → reads (suc k) d at (port_kind ∷ body) ≡ Ok e → front d ++ (port_kind ∷ body) ≡ encoded e
 ends_port k e ends d at body room b h =
     let q = port_of body in
-    elim (read_on (cond (ltb (length body) 16) (Err (Cut at)) (port_answer d at)) (with_port d q) e (reads k (with_port d q) (at + 17) (drop 16 body)) h) [
-      | inl (am, hn) ↦
-          let s = port_kept d at body More am in
-          behind k e d (with_port d q) (at + 17) (port_record q) (drop 16 body) (port_kind ∷ body) ends
-          (record { for_ports = length-set d.parts.ports (ports d) q ∙ room.for_ports; for_flows = room.for_flows; for_rows = room.for_rows })
-          (bytes_drop body 16 b) (port_record_of body b s.0) (front_with_port d q (omega (arith, room.for_ports, s.3)) s.1 s.2) hn
-      | inr (ad, _) ↦ absurd (more_not_done (port_kept d at body Done ad).4)
-    ]
+    let s = port_kept d (with_port d q) e at body (reads k (with_port d q) (at + 17) (drop 16 body)) h in
+    behind k e d (with_port d q) (at + 17) (port_record q) (drop 16 body) (port_kind ∷ body) ends
+    (record { for_ports = length-set d.parts.ports (ports d) q ∙ room.for_ports; for_flows = room.for_flows; for_rows = room.for_rows })
+    (bytes_drop body 16 b) (port_record_of body b s.0) (front_with_port d q (omega (arith, room.for_ports, s.3)) s.1 s.2) s.4
 
 ends_flow : (k : ℕ) (e : Draft) → Ends k e → (d : Draft) (at : ℕ) (body : List ℕ) → Roomy d → Bytes body → reads (suc k) d at (flow_kind ∷ body) ≡ Ok e → front d ++ (flow_kind ∷ body) ≡ encoded e
 ends_flow k e ends d at body room b h =
     let w = flow_of body in
-    elim (read_on (cond (ltb (length body) 26) (Err (Cut at)) (flow_answer d at)) (with_flow d w) e (reads k (with_flow d w) (at + 27) (drop 26 body)) h) [
-      | inl (am, hn) ↦
-          let s = flow_kept d at body More am in
-          behind k e d (with_flow d w) (at + 27) (flow_record w) (drop 26 body) (flow_kind ∷ body) ends
-          (record { for_ports = room.for_ports; for_flows = length-set d.parts.flows (flows d) w ∙ room.for_flows; for_rows = room.for_rows })
-          (bytes_drop body 26 b) (flow_record_of body b s.0) (front_with_flow d w (omega (arith, room.for_flows, s.2)) s.1) hn
-      | inr (ad, _) ↦ absurd (more_not_done (flow_kept d at body Done ad).3)
-    ]
+    let s = flow_kept d (with_flow d w) e at body (reads k (with_flow d w) (at + 27) (drop 26 body)) h in
+    behind k e d (with_flow d w) (at + 27) (flow_record w) (drop 26 body) (flow_kind ∷ body) ends
+    (record { for_ports = room.for_ports; for_flows = length-set d.parts.flows (flows d) w ∙ room.for_flows; for_rows = room.for_rows })
+    (bytes_drop body 26 b) (flow_record_of body b s.0) (front_with_flow d w (omega (arith, room.for_flows, s.2)) s.1) s.3
 
 ends_row : (k : ℕ) (e : Draft) → Ends k e → (d : Draft) (at : ℕ) (body : List ℕ) → Roomy d → Bytes body → reads (suc k) d at (row_kind ∷ body) ≡ Ok e → front d ++ (row_kind ∷ body) ≡ encoded e
 ends_row k e ends d at body room b h =
     let r = row_of body in
-    elim (read_on (cond (ltb (length body) 33) (Err (Cut at)) (row_answer d at (row_flow body))) (with_row d r) e (reads k (with_row d r) (at + 34) (drop 33 body)) h) [
-      | inl (am, hn) ↦
-          let s = row_kept d at body More am in
-          behind k e d (with_row d r) (at + 34) (row_record (rows d) r) (drop 33 body) (row_kind ∷ body) ends
-          (record { for_ports = room.for_ports; for_flows = room.for_flows; for_rows = length-set d.proposal.table.rows (rows d) r ∙ room.for_rows })
-          (bytes_drop body 33 b) (row_record_of (rows d) body b s.0 s.1) (front_with_row d r (omega (arith, room.for_rows, s.2))) hn
-      | inr (ad, _) ↦ absurd (more_not_done (row_kept d at body Done ad).3)
-    ]
+    let s = row_kept d (with_row d r) e at body (reads k (with_row d r) (at + 34) (drop 33 body)) h in
+    behind k e d (with_row d r) (at + 34) (row_record (rows d) r) (drop 33 body) (row_kind ∷ body) ends
+    (record { for_ports = room.for_ports; for_flows = room.for_flows; for_rows = length-set d.proposal.table.rows (rows d) r ∙ room.for_rows })
+    (bytes_drop body 33 b) (row_record_of (rows d) body b s.0 s.1) (front_with_row d r (omega (arith, room.for_rows, s.2))) s.3
 
 ends_end : (k : ℕ) (e d : Draft) (at : ℕ) (body : List ℕ) → Bytes body → reads (suc k) d at (end_kind ∷ body) ≡ Ok e → front d ++ (end_kind ∷ body) ≡ encoded e
 ends_end k e d at body b h =
-    elim (read_on (cond (ltb (length body) 4) (Err (Cut at)) (end_answer d at body)) d e (reads k d (at + 5) (drop 4 body)) h) [
-      | inl (am, _) ↦ absurd (more_not_done (sym (end_kept d at body More am).2))
-      | inr (ad, hd) ↦
-          let s = end_kept d at body Done ad in
-          ap (λ l. front d ++ l) (sym (end_record_of (ports d + flows d + rows d) body b s.1 s.0)) ∙ ap encoded hd
-    ]
+    let s = end_kept d e at body (reads k d (at + 5) (drop 4 body)) h in
+    ap (λ l. front d ++ l) (sym (end_record_of (ports d + flows d + rows d) body b s.1 s.0)) ∙ ap encoded s.2
 
--- a kind that does not exist
-no_length : (kind : ℕ) → (kind ≡ port_kind → ⊥) → (kind ≡ flow_kind → ⊥) → (kind ≡ row_kind → ⊥) → (kind ≡ end_kind → ⊥) → body_length kind ≡ None
-no_length kind p f b e = grind (arith, nat_tests)
+-- a byte that is no letter
+no_kind : (byte : ℕ) → (byte ≡ port_kind → ⊥) → (byte ≡ flow_kind → ⊥) → (byte ≡ row_kind → ⊥) → (byte ≡ end_kind → ⊥) → kind_of byte ≡ Err (record { 0 = byte })
+no_kind byte p f b e = grind (arith, nat_tests)
 
-ends_none : (k : ℕ) (e d : Draft) (at kind : ℕ) (body : List ℕ) → body_length kind ≡ None → reads (suc k) d at (kind ∷ body) ≡ Ok e → ⊥
-ends_none k e d at kind body n h =
-    let next = whole_draft d kind body in
-    let size = record_size (kind ∷ body) in
-    let r = sym (ap (λ o. then_read (sized_answer d at kind body o) next (reads k next (at + size) (drop size (kind ∷ body)))) n) ∙ h in
-    let z : ◌≡◌ {A = ℕ} 0 1 = cc in
-    omega arith
+ends_none : (k : ℕ) (e d : Draft) (at byte : ℕ) (body : List ℕ) → kind_of byte ≡ Err (record { 0 = byte }) → reads (suc k) d at (byte ∷ body) ≡ Ok e → ⊥
+ends_none k e d at byte body n h =
+    let r = sym (ap (λ o. then_read (kind_answer d at o body) (kind_draft d o body) (reads k (kind_draft d o body) (at + kind_size o) (drop (kind_size o) (byte ∷ body)))) n) ∙ h in
+    cc
 
 ends_record : (k : ℕ) (e : Draft) → Ends k e → (d : Draft) (at kind : ℕ) (body : List ℕ) → Roomy d → Bytes body → reads (suc k) d at (kind ∷ body) ≡ Ok e → front d ++ (kind ∷ body) ≡ encoded e
 ends_record k e ends d at kind body room b =
@@ -262,15 +204,15 @@ ends_record k e ends d at kind body room b =
           | yes p ↦ subst Goal (sym p) (ends_row k e ends d at body room b)
           | no nb ↦ elim (ℕ_discrete kind end_kind) [
             | yes p ↦ subst Goal (sym p) (ends_end k e d at body b)
-            | no ne ↦ λ h. absurd (ends_none k e d at kind body (no_length kind np nf nb ne) h)
+            | no ne ↦ λ h. absurd (ends_none k e d at kind body (no_kind kind np nf nb ne) h)
           ]
         ]
       ]
     ]
 
 ends_all : (k : ℕ) (e : Draft) → Ends k e
-ends_all zero e d at rest room b h = let z : ◌≡◌ {A = ℕ} 0 1 = cc in absurd (omega arith)
-ends_all (suc k) e d at [] room b h = let z : ◌≡◌ {A = ℕ} 0 1 = cc in absurd (omega arith)
+ends_all zero e d at rest room b h = absurd cc
+ends_all (suc k) e d at [] room b h = absurd cc
 ends_all (suc k) e d at (kind ∷ body) room b h = ends_record k e (ends_all k e) d at kind body room (λ i. b (suc i)) h
 
 -- the whole file, from its first record

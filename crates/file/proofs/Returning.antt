@@ -1,6 +1,6 @@
 -- The file of a draft reads back: a reader that leaves behind what it has read, and one step of it for each kind of record.
-use Rattle.std.proofs.Common.{◌≡◌, ℕ, zero, suc, ◌+◌, ◌*◌, ◌/◌, ◌%◌, ◌<◌, ◌≤◌, ltb, List, [], ◌∷◌, ◌++◌, length, get_or, take, drop, set, replicate, Ok, Err, Result, sym, refl, ap, ◌∙◌, add-one, arith}
-use Rattle.std.proofs.lemmas.List.{append_assoc, drop-drop, drop_more, length-take-le, set_at, take_more}
+use Rattle.std.proofs.Common.{◌≡◌, ℕ, zero, suc, ◌+◌, ◌*◌, ◌/◌, ◌%◌, ◌<◌, ◌≤◌, ltb, List, [], ◌∷◌, ◌++◌, length, get_or, take, drop, set, replicate, All, Ok, Err, Result, sym, refl, ap, ◌∙◌, subst, add-one, arith}
+use Rattle.std.proofs.lemmas.List.{append_assoc, drop-drop, drop_more, get_or-take, length-take-le, set_at, take_more}
 use Rattle.std.proofs.lemmas.Bool.{cond-false, le-ltb}
 use Rattle.std.proofs.lemmas.Bool.Decides.{nat_tests}
 use Rattle.draft.specs.Plans.{blank_flow, blank_row, empty_draft, flow_at, no_flow, no_port, no_proposal, no_row, port_at, row_at}
@@ -8,8 +8,9 @@ use Rattle.draft.specs.declared.draft.Draft.{Draft}
 use Rattle.draft.specs.declared.flow.Flow.{Flow}
 use Rattle.draft.specs.declared.port.Port.{Port}
 use Rattle.draft.specs.declared.table.Row.{Row}
-use Rattle.file.specs.Counts.{Few, HasFlows, HasPorts, HasRows, flows, ports, rows}
-use Rattle.file.specs.Reads.{end_answer, flow_answer, port_answer, read, read_from, record_answer, record_draft, record_size, row_answer, then_read, with_flow, with_port, with_row}
+use Rattle.file.specs.Counts.{Few, HasCells, HasPath, flows, ports, rows}
+use Rattle.file.specs.Additions.{with_flow, with_port, with_row}
+use Rattle.file.specs.Reads.{end_answer, flow_answer, port_answer, read, read_from, record_answer, record_draft, record_size, row_answer, then_read}
 use Rattle.file.specs.Records.{flow_of, port_of, row_of}
 use Rattle.file.specs.Returns.{cut_to, fronted, tidied}
 use Rattle.file.specs.Writes.{bytes_of, encoded, end_record, flow_bytes, flow_record, port_bytes, port_record, records, row_bytes, row_record}
@@ -147,9 +148,13 @@ with_row_cut d i j k h l =
     ap (λ xs. cut xs (k + 1)) (fronted_more d.proposal.table.rows (replicate 64 blank_row) k no_row h l)
     ∙ ap (cut (fronted (suc k) d.proposal.table.rows (replicate 64 blank_row))) (add-one k)
 
+taken : {X : Type 0} (P : X → Type 0) (xs : List X) (n : ℕ) → All P (take n xs) → n ≤ length xs → (i : ℕ) (z : X) → i < n → P (get_or xs i z)
+taken P xs n all h i z l = subst P (get_or-take n xs i z l) (all i z (omega (arith, length-take-le n xs h)))
+
 -- the file of a draft says what the draft says
-pub read_encoded : (d : Draft) → Few d → HasPorts d (ports d) → HasFlows d (flows d) → HasRows d (rows d) → read (encoded d) ≡ Ok (tidied d)
-read_encoded d few hp hf hr =
+pub read_encoded : (d : Draft) → Few d → ports d ≤ length d.parts.ports → flows d ≤ length d.parts.flows → rows d ≤ length d.proposal.table.rows
+    → All HasPath (take (flows d) d.parts.flows) → All HasCells (take (rows d) d.proposal.table.rows) → read (encoded d) ≡ Ok (tidied d)
+read_encoded d few hp hf hr paths cells =
     let P = ports d in
     let F = flows d in
     let R = rows d in
@@ -159,8 +164,8 @@ read_encoded d few hp hf hr =
     let n = 16 * P + 26 * F + 33 * R + 4 in
     let size : length (encoded d) ≡ P + (F + (R + suc n)) = omega (arith, length_encoded d) in
     let by_ports = reads_records (port_bytes d) 17 (λ i. cut_to i 0 0 d) P 0 (λ i h k at rest. reads_port k (cut_to i 0 0 d) at (port_at d.parts i) rest refl refl (omega (arith, few.0)) ∙ ap (λ e. reads k e (at + 17) rest) (with_port_cut d i (omega (arith, hp)) (omega (arith, few.0)))) P (omega arith) in
-    let by_flows = reads_records (flow_bytes d) 27 (λ j. cut_to P j 0 d) F (0 + 17 * P) (λ j h k at rest. reads_flow k (cut_to P j 0 d) at (flow_at d.parts j) rest refl (omega (arith, few.1)) (hf.1 j h) ∙ ap (λ e. reads k e (at + 27) rest) (with_flow_cut d P j (omega (arith, hf.0)) (omega (arith, few.1)))) F (omega arith) in
-    let by_rows = reads_records (row_bytes d) 34 (λ r. cut_to P F r d) R (0 + 17 * P + 27 * F) (λ r h k at rest. reads_row k (cut_to P F r d) at r (row_at d.proposal.table r) rest refl (omega (arith, few.2)) (hr.1 r h) ∙ ap (λ e. reads k e (at + 34) rest) (with_row_cut d P F r (omega (arith, hr.0)) (omega (arith, few.2)))) R (omega arith) in
+    let by_flows = reads_records (flow_bytes d) 27 (λ j. cut_to P j 0 d) F (0 + 17 * P) (λ j h k at rest. reads_flow k (cut_to P j 0 d) at (flow_at d.parts j) rest refl (omega (arith, few.1)) (taken HasPath d.parts.flows F paths hf j no_flow h) ∙ ap (λ e. reads k e (at + 27) rest) (with_flow_cut d P j (omega (arith, hf)) (omega (arith, few.1)))) F (omega arith) in
+    let by_rows = reads_records (row_bytes d) 34 (λ r. cut_to P F r d) R (0 + 17 * P + 27 * F) (λ r h k at rest. reads_row k (cut_to P F r d) at r (row_at d.proposal.table r) rest refl (omega (arith, few.2)) (taken HasCells d.proposal.table.rows R cells hr r no_row h) ∙ ap (λ e. reads k e (at + 34) rest) (with_row_cut d P F r (omega (arith, hr)) (omega (arith, few.2)))) R (omega arith) in
     let apart : encoded d ≡ records (port_bytes d) P ++ Fs = simp append_assoc in
     read_from_reads (length (encoded d)) empty_draft 0 (encoded d)
     ∙ (ap (λ k. reads k empty_draft 0 (encoded d)) size

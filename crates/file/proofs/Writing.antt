@@ -1,72 +1,93 @@
--- Bytes written into a place one after another, and records of one length in a row.
-use Rattle.std.proofs.Common.{◌≡◌, ℕ, zero, suc, ◌+◌, ◌*◌, ◌≤◌, List, [], ◌++◌, length, take, drop, sym, refl, ap, ◌∙◌, add-one, arith}
-use borrow.Rule.Slice.PartMut.{put_mid}
-use Rattle.std.proofs.lemmas.List.{append_assoc, drop_at, drop-drop, length-append, length-take-le, take-append-drop, take_at}
+-- Bytes written one after another, and records of one length in a row.
+use Rattle.std.proofs.Common.{◌≡◌, ℕ, zero, suc, ◌+◌, ◌*◌, ◌<◌, ◌≤◌, List, [], ◌∷◌, ◌++◌, length, get_or, take, drop, sym, refl, ap, ◌∙◌, add-one, arith, length-drop}
+use Rattle.std.proofs.lemmas.List.{append_assoc, append-nil, drop-drop, length-append, length-take-le, take-append-drop, take_more}
+use Rattle.draft.specs.Plans.{no_flow, no_port, no_row}
 use Rattle.draft.specs.declared.draft.Draft.{Draft}
+use Rattle.draft.specs.declared.flow.Flow.{Flow}
+use Rattle.draft.specs.declared.port.Port.{Port}
+use Rattle.draft.specs.declared.table.Row.{Row}
 use Rattle.file.specs.Counts.{flows, ports, rows}
-use Rattle.file.specs.Writes.{encoded, encoded_size, end_record, flow_bytes, port_bytes, records, row_bytes, written}
+use Rattle.file.specs.Writers.{Wrote, done, in_order, left}
+use Rattle.file.specs.Writes.{encoded, encoded_size, flow_bytes, flow_record, port_bytes, port_record, records, row_bytes, row_record}
+use Rattle.file.specs.declared.encoder.writer.Writer.{Writer}
 
--- what a copy into a part leaves
-pub put_mid_written : (xs ys zs : List ℕ) (at k : ℕ) → zs ≡ ys → k ≡ length ys → put_mid at k xs zs ≡ written xs at ys
-put_mid_written xs ys zs at k e h =
-    ap (λ s. take at xs ++ (s ++ drop k (drop at xs))) e
-    ∙ (ap (λ s. take at xs ++ (ys ++ s)) (drop-drop k at xs) ∙ ap (λ n. take at xs ++ (ys ++ drop (at + n) xs)) h)
+-- what a place holds, by what is written and what is left
+pub whole_place : (w : Writer) → w.place.now ≡ done w ++ left w
+unfolding done left
+whole_place w = sym (take-append-drop w.at w.place.now)
 
-pub written_none : (xs : List ℕ) (at : ℕ) → xs ≡ written xs at []
-written_none xs at = sym (ap (λ n. take at xs ++ drop n xs) (omega arith) ∙ take-append-drop at xs)
+-- bytes, and then more
+pub wrote_more : {a b c : Writer} {s t : List ℕ} → Wrote a s b → Wrote b t c → (u : List ℕ) → s ++ t ≡ u → Wrote a u c
+wrote_more {a = a} {s = s} {t = t} o p u e =
+    record {
+      more = p.more ∙ (ap (λ l. l ++ t) o.more ∙ (append_assoc (done a) s t ∙ ap (λ l. done a ++ l) e));
+      rest = p.rest ∙ (ap (drop (length t)) o.rest ∙ (drop-drop (length t) (length s) (left a) ∙ ap (λ n. drop n (left a)) (sym (length-append s t) ∙ ap length e)));
+    }
 
-written_written : (xs s t : List ℕ) (at : ℕ) → at ≤ length xs → written (written xs at s) (at + length s) t ≡ written xs at (s ++ t)
-written_written xs s t at h =
-    let front = take at xs ++ s in
-    let rest = drop (at + length s) xs in
-    let n : length front ≡ at + length s = length-append (take at xs) s ∙ ap (λ k. k + length s) (length-take-le at xs h) in
-    let apart : written xs at s ≡ front ++ rest = sym (append_assoc (take at xs) s rest) in
-    let before : take (at + length s) (written xs at s) ≡ front = ap (take (at + length s)) apart ∙ take_at front rest (at + length s) n in
-    let behind : drop (at + length s + length t) (written xs at s) ≡ drop (at + length (s ++ t)) xs =
-    sym (drop-drop (length t) (at + length s) (written xs at s))
-    ∙ (ap (λ l. drop (length t) (drop (at + length s) l)) apart
-    ∙ (ap (drop (length t)) (drop_at front rest (at + length s) n)
-    ∙ (drop-drop (length t) (at + length s) xs ∙ ap (λ k. drop k xs) (simp length-append (omega arith))))) in
-    ap (λ l. l ++ (t ++ drop (at + length s + length t) (written xs at s))) before
-    ∙ (ap (λ l. front ++ (t ++ l)) behind
-    ∙ (append_assoc (take at xs) s (t ++ drop (at + length (s ++ t)) xs)
-    ∙ ap (λ l. take at xs ++ l) (sym (append_assoc s t (drop (at + length (s ++ t)) xs)))))
+-- how much may still be written
+pub room_left : {a b : Writer} {s : List ℕ} → Wrote a s b → (n : ℕ) → length s + n ≤ length (left a) → n ≤ length (left b)
+room_left {a = a} {s = s} o n h = rw o.rest (simp length-drop (omega arith))
+
+in_order_append : {X : Type 0} (f : ℕ → X → List ℕ) (n : ℕ) (xs ys : List X) → in_order f n (xs ++ ys) ≡ in_order f n xs ++ in_order f (n + length xs) ys
+in_order_append f n [] ys = ap (λ k. in_order f k ys) (omega arith)
+in_order_append f n (x ∷ xs) ys =
+    let e : n + 1 + length xs ≡ n + length (x ∷ xs) = omega arith in
+    ap (λ s. f n x ++ s) (in_order_append f (n + 1) xs ys ∙ ap (λ k. in_order f (n + 1) xs ++ in_order f k ys) e)
+    ∙ sym (append_assoc (f n x) (in_order f (n + 1) xs) (in_order f (n + length (x ∷ xs)) ys))
+
+-- one record more
+pub in_order_more : {X : Type 0} (f : ℕ → X → List ℕ) (xs : List X) (n : ℕ) (d : X) → n < length xs → in_order f 0 (take (n + 1) xs) ≡ in_order f 0 (take n xs) ++ f n (get_or xs n d)
+in_order_more f xs n d h =
+    let x = get_or xs n d in
+    ap (in_order f 0) (take_more xs n d h)
+    ∙ (in_order_append f 0 (take n xs) (x ∷ [])
+    ∙ ap (λ s. in_order f 0 (take n xs) ++ s) (append-nil (f (0 + length (take n xs)) x) ∙ ap (λ k. f k x) (omega (arith, length-take-le n xs (omega arith)))))
+
+pub in_order_room : {X : Type 0} (f : ℕ → X → List ℕ) (xs : List X) (n : ℕ) (d : X) → n < length xs → length (in_order f 0 (take n xs)) + length (f n (get_or xs n d)) ≤ length (in_order f 0 xs)
+in_order_room f xs n d h =
+    let front = take (n + 1) xs in
+    let behind = drop (n + 1) xs in
+    let all = ap length (ap (in_order f 0) (sym (take-append-drop (n + 1) xs)) ∙ in_order_append f 0 front behind) ∙ length-append (in_order f 0 front) (in_order f (0 + length front) behind) in
+    let more = ap length (in_order_more f xs n d h) ∙ length-append (in_order f 0 (take n xs)) (f n (get_or xs n d)) in
+    omega (arith, all, more)
 
 pub length_records : (r : ℕ → List ℕ) (w : ℕ) → ((k : ℕ) → length (r k) ≡ w) → (n : ℕ) → length (records r n) ≡ w * n
 length_records r w h zero = omega arith
 length_records r w h (suc n) = length-append (records r n) (r n) ∙ omega (arith, length_records r w h n, h n)
 
--- bytes s stand in a place from `at` on, and end at e
-pub record Put (xs : List ℕ) (at : ℕ) (s place : List ℕ) (e : ℕ) : Type 0 where
-  pub after : place ≡ written xs at s
-  pub at_end : e ≡ at + length s
+-- the same records by their numbers
+in_order_records : {X : Type 0} (f : ℕ → X → List ℕ) (xs : List X) (z : X) (n : ℕ) → n ≤ length xs → in_order f 0 (take n xs) ≡ records (λ k. f k (get_or xs k z)) n
+in_order_records f xs z zero h = refl
+in_order_records f xs z (suc n) h =
+    sym (ap (λ m. in_order f 0 (take m xs)) (add-one n))
+    ∙ (in_order_more f xs n z (omega arith) ∙ ap (λ s. s ++ f n (get_or xs n z)) (in_order_records f xs z n (omega arith)))
 
-pub put_more : (t : List ℕ) {xs s place next : List ℕ} {at e end : ℕ} → at ≤ length xs → Put xs at s place e → next ≡ written place e t → end ≡ e + length t → Put xs at (s ++ t) next end
-put_more t {xs = xs} {s = s} {at = at} {e = e} h o hn he =
+-- the first records of a list, of one length each: what they are by their numbers, and how many bytes
+pub record Part (written : List ℕ) (r : ℕ → List ℕ) (w n : ℕ) : Type 0 where
+  pub same : written ≡ records r n
+  pub size : length written ≡ w * n
+
+part : {X : Type 0} (f : ℕ → X → List ℕ) (w : ℕ) → ((k : ℕ) (x : X) → length (f k x) ≡ w) → (xs ys : List X) (z : X) (n : ℕ) → ys ≡ take n xs → n ≤ length xs
+    → Part (in_order f 0 ys) (λ k. f k (get_or xs k z)) w n
+part f w each xs ys z n e h =
+    let r = λ (k : ℕ). f k (get_or xs k z) in
+    let same = ap (in_order f 0) e ∙ in_order_records f xs z n h in
+    record { same = same; size = ap length same ∙ length_records r w (λ k. each k (get_or xs k z)) n }
+
+-- a draft's ports, flows and rows
+pub record Parts (d : Draft) (ps : List Port) (fs : List Flow) (rs : List Row) : Type 0 where
+  pub of_ports : Part (in_order (λ k. port_record) 0 ps) (port_bytes d) 17 (ports d)
+  pub of_flows : Part (in_order (λ k. flow_record) 0 fs) (flow_bytes d) 27 (flows d)
+  pub of_rows : Part (in_order row_record 0 rs) (row_bytes d) 34 (rows d)
+
+pub parts : (d : Draft) {ps : List Port} {fs : List Flow} {rs : List Row} → ps ≡ take (ports d) d.parts.ports → fs ≡ take (flows d) d.parts.flows → rs ≡ take (rows d) d.proposal.table.rows
+    → ports d ≤ length d.parts.ports → flows d ≤ length d.parts.flows → rows d ≤ length d.proposal.table.rows → Parts d ps fs rs
+parts d {ps = ps} {fs = fs} {rs = rs} p f r hp hf hr =
     record {
-      after = hn ∙ (ap (λ p. written p e t) o.after ∙ (ap (λ k. written (written xs at s) k t) o.at_end ∙ written_written xs s t at h));
-      at_end = simp length-append (omega (arith, o.at_end, he));
+      of_ports = part (λ k. port_record) 17 (λ k x. refl) d.parts.ports ps no_port (ports d) p hp;
+      of_flows = part (λ k. flow_record) 27 (λ k x. refl) d.parts.flows fs no_flow (flows d) f hf;
+      of_rows = part row_record 34 (λ k x. refl) d.proposal.table.rows rs no_row (rows d) r hr;
     }
-
--- n records of w bytes each stand in a place from `at` on, and end at e
-pub record Wrote (r : ℕ → List ℕ) (w : ℕ) (xs : List ℕ) (at n : ℕ) (place : List ℕ) (e : ℕ) : Type 0 where
-  pub after : place ≡ written xs at (records r n)
-  pub at_end : e ≡ at + w * n
-
-pub wrote_none : (r : ℕ → List ℕ) (w : ℕ) (xs : List ℕ) (at : ℕ) → Wrote r w xs at 0 xs at
-wrote_none r w xs at = record { after = written_none xs at; at_end = omega arith }
-
-pub wrote_more : (r : ℕ → List ℕ) (w : ℕ) (xs : List ℕ) (at n : ℕ) (place : List ℕ) (e : ℕ) (next : List ℕ) (end : ℕ)
-    → ((k : ℕ) → length (r k) ≡ w) → at ≤ length xs → Wrote r w xs at n place e → next ≡ written place e (r n) → end ≡ e + w
-    → Wrote r w xs at (n + 1) next end
-wrote_more r w xs at n place e next end h l o hn he =
-    let start : e ≡ at + length (records r n) = o.at_end ∙ ap (λ k. at + k) (sym (length_records r w h n)) in
-    let put = put_more (r n) l (record { after = o.after; at_end = start }) hn (he ∙ ap (λ k. e + k) (sym (h n))) in
-    record { after = put.after ∙ rw add-one refl; at_end = omega (arith, o.at_end, he) }
-
-pub wrote_all : (r : ℕ → List ℕ) (w : ℕ) (xs : List ℕ) (at n m : ℕ) (place : List ℕ) (e : ℕ) → n ≡ m → Wrote r w xs at n place e → Wrote r w xs at m place e
-wrote_all r w xs at n m place e h o =
-    record { after = o.after ∙ ap (λ k. written xs at (records r k)) h; at_end = o.at_end ∙ ap (λ k. at + w * k) h }
 
 pub length_encoded : (d : Draft) → length (encoded d) ≡ encoded_size d
 length_encoded d =
@@ -74,28 +95,3 @@ length_encoded d =
     let f = length_records (flow_bytes d) 27 (λ k. refl) (flows d) in
     let r = length_records (row_bytes d) 34 (λ k. refl) (rows d) in
     simp length-append (omega (arith, p, f, r))
-
--- ports, flows, rows and the end, written one behind the other
-pub written_encoded : (d : Draft) (xs p₁ p₂ p₃ p₄ : List ℕ) (e₁ e₂ e₃ : ℕ)
-    → p₁ ≡ written xs 0 (records (port_bytes d) (ports d)) → e₁ ≡ 0 + 17 * ports d
-    → p₂ ≡ written p₁ e₁ (records (flow_bytes d) (flows d)) → e₂ ≡ e₁ + 27 * flows d
-    → p₃ ≡ written p₂ e₂ (records (row_bytes d) (rows d)) → e₃ ≡ e₂ + 34 * rows d
-    → p₄ ≡ written p₃ e₃ (end_record (ports d + flows d + rows d))
-    → p₄ ≡ encoded d ++ drop (encoded_size d) xs
-written_encoded d xs p₁ p₂ p₃ p₄ e₁ e₂ e₃ h₁ k₁ h₂ k₂ h₃ k₃ h₄ =
-    let P = records (port_bytes d) (ports d) in
-    let F = records (flow_bytes d) (flows d) in
-    let R = records (row_bytes d) (rows d) in
-    let E = end_record (ports d + flows d + rows d) in
-    let p = length_records (port_bytes d) 17 (λ k. refl) (ports d) in
-    let f = length_records (flow_bytes d) 27 (λ k. refl) (flows d) in
-    let r = length_records (row_bytes d) 34 (λ k. refl) (rows d) in
-    let z : 0 ≤ length xs = omega arith in
-    let n₁ : e₁ ≡ 0 + length P = omega (arith, p, k₁) in
-    let n₂ : e₂ ≡ e₁ + length F = omega (arith, f, k₂) in
-    let n₃ : e₃ ≡ e₂ + length R = omega (arith, r, k₃) in
-    let o₁ : Put xs 0 P p₁ e₁ = record { after = h₁; at_end = n₁ } in
-    let o₄ = put_more E z (put_more R z (put_more F z o₁ h₂ n₂) h₃ n₃) h₄ refl in
-    let same : ((P ++ F) ++ R) ++ E ≡ encoded d = simp append_assoc in
-    let n : 0 + length (encoded d) ≡ encoded_size d = omega (arith, length_encoded d) in
-    o₄.after ∙ (ap (λ l. written xs 0 l) same ∙ ap (λ k. encoded d ++ drop k xs) n)

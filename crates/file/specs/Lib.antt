@@ -1,6 +1,9 @@
 pub mod Counts
 pub mod Faults
+pub mod Kinds
 pub mod Records
+pub mod Additions
 pub mod Reads
 pub mod Writes
+pub mod Writers
 pub mod Returns

@@ -1,38 +1,18 @@
 -- What a file says, record by record, or the first refusal with its place.
-use Rattle.std.specs.Prelude.{ℕ, zero, suc, ◌+◌, cond, ◌&&◌, List, [], ◌∷◌, length, drop, Some, None, Ok, Err, Option, Result, ◌==◌, nat_lt, slice_set}
+use Rattle.std.specs.Prelude.{ℕ, zero, suc, ◌+◌, cond, ◌&&◌, List, [], ◌∷◌, length, drop, Ok, Err, Result, ◌==◌, nat_lt}
 use Rattle.draft.specs.Plans.{empty_draft}
 use Rattle.draft.specs.declared.draft.Draft.{Draft}
-use Rattle.draft.specs.declared.flow.Flow.{Flow}
-use Rattle.draft.specs.declared.port.Port.{Port}
-use Rattle.draft.specs.declared.table.Row.{Row}
+use Rattle.file.specs.Additions.{with_flow, with_port, with_row}
 use Rattle.file.specs.Counts.{flows, ports, rows}
-use Rattle.file.specs.Records.{row_kind, flow_kind, port_kind, body_length, flow_of, number_at, port_of, row_flow, row_of}
+use Rattle.file.specs.Kinds.{body_length, kind_of}
+use Rattle.file.specs.Records.{flow_of, number_at, port_of, row_flow, row_of}
 use Rattle.file.specs.declared.fault.FileFault.{FileFault}
-use Rattle.file.specs.declared.fault.FileFault.TheVariants.{Count, Cut, Excess, Kind, Order, Trailing}
+use Rattle.file.specs.declared.fault.FileFault.TheVariants.{Count, Cut, Excess, Kind as NoKind, Order, Trailing}
+use Rattle.file.specs.declared.kind.Kind.{Kind}
+use Rattle.file.specs.declared.kind.Kind.TheVariants.{End, Flow, Port, Row}
+use Rattle.file.specs.declared.kind.UnknownKind.{UnknownKind}
 use Rattle.file.specs.declared.reader.Progress.{Progress}
 use Rattle.file.specs.declared.reader.Progress.TheVariants.{Done, More}
-
--- a draft with one port, one flow or one row more
-abbrev pub with_port : Draft → Port → Draft
-with_port d q =
-    record {
-      parts = record { ports = slice_set d.parts.ports (ports d) q; flows = d.parts.flows; size = record { ports = ports d + 1; flows = flows d } };
-      proposal = d.proposal;
-    }
-
-abbrev pub with_flow : Draft → Flow → Draft
-with_flow d w =
-    record {
-      parts = record { ports = d.parts.ports; flows = slice_set d.parts.flows (flows d) w; size = record { ports = ports d; flows = flows d + 1 } };
-      proposal = d.proposal;
-    }
-
-abbrev pub with_row : Draft → Row → Draft
-with_row d r =
-    record {
-      parts = d.parts;
-      proposal = record { table = record { rows = slice_set d.proposal.table.rows (rows d) r }; rows = rows d + 1 };
-    }
 
 -- a port comes before every flow and row, and is one of 32
 abbrev pub port_answer : Draft → ℕ → Result Progress FileFault
@@ -52,39 +32,46 @@ end_answer d at body =
     cond (number_at body 0 == ports d + flows d + rows d) (cond (length body == 4) (Ok Done) (Err (Trailing (at + 5)))) (Err (Count at))
 
 -- the answer to a record that is whole
-abbrev pub whole_answer : Draft → ℕ → ℕ → List ℕ → Result Progress FileFault
-whole_answer d at kind body =
-    cond (kind == port_kind) (port_answer d at)
-    (cond (kind == flow_kind) (flow_answer d at) (cond (kind == row_kind) (row_answer d at (row_flow body)) (end_answer d at body)))
+abbrev pub whole_answer : Draft → ℕ → Kind → List ℕ → Result Progress FileFault
+whole_answer d at Port body = port_answer d at
+whole_answer d at Flow body = flow_answer d at
+whole_answer d at Row body = row_answer d at (row_flow body)
+whole_answer d at End body = end_answer d at body
 
 -- the draft with what a record says
-abbrev pub whole_draft : Draft → ℕ → List ℕ → Draft
-whole_draft d kind body =
-    cond (kind == port_kind) (with_port d (port_of body))
-    (cond (kind == flow_kind) (with_flow d (flow_of body)) (cond (kind == row_kind) (with_row d (row_of body)) d))
+abbrev pub whole_draft : Draft → Kind → List ℕ → Draft
+whole_draft d Port body = with_port d (port_of body)
+whole_draft d Flow body = with_flow d (flow_of body)
+whole_draft d Row body = with_row d (row_of body)
+whole_draft d End body = d
 
--- the answer to a record of this length at this place: first its kind, then its length, then the rest
-abbrev pub sized_answer : Draft → ℕ → ℕ → List ℕ → Option ℕ → Result Progress FileFault
-sized_answer d at kind body None = Err (Kind at)
-sized_answer d at kind body (Some n) = cond (nat_lt (length body) n) (Err (Cut at)) (whole_answer d at kind body)
+-- the answer to a record of this kind at this place: first its kind, then its length, then the rest
+abbrev pub kind_answer : Draft → ℕ → Result Kind UnknownKind → List ℕ → Result Progress FileFault
+kind_answer d at (Err e) body = Err (NoKind at)
+kind_answer d at (Ok kind) body = cond (nat_lt (length body) (body_length kind)) (Err (Cut at)) (whole_answer d at kind body)
 
 -- the answer to the record at a place, from the bytes on; where there is none, the file is cut off
 abbrev pub record_answer : Draft → ℕ → List ℕ → Result Progress FileFault
 record_answer d at [] = Err (Cut at)
-record_answer d at (kind ∷ body) = sized_answer d at kind body (body_length kind)
+record_answer d at (byte ∷ body) = kind_answer d at (kind_of byte) body
+
+-- the draft after it
+abbrev pub kind_draft : Draft → Result Kind UnknownKind → List ℕ → Draft
+kind_draft d (Err e) body = d
+kind_draft d (Ok kind) body = whole_draft d kind body
 
 abbrev pub record_draft : Draft → List ℕ → Draft
 record_draft d [] = d
-record_draft d (kind ∷ body) = whole_draft d kind body
+record_draft d (byte ∷ body) = kind_draft d (kind_of byte) body
 
--- how many bytes a record takes, its kind included; 0 where there is none
-abbrev pub size_of : Option ℕ → ℕ
-size_of None = 0
-size_of (Some n) = n + 1
+-- how many bytes a record takes, its letter included; 0 where there is none
+abbrev pub kind_size : Result Kind UnknownKind → ℕ
+kind_size (Err e) = 0
+kind_size (Ok kind) = body_length kind + 1
 
 abbrev pub record_size : List ℕ → ℕ
 record_size [] = 0
-record_size (kind ∷ body) = size_of (body_length kind)
+record_size (byte ∷ body) = kind_size (kind_of byte)
 
 -- the answer of a whole file, from that of one record, the draft after it, and the answer of the records behind it
 abbrev pub then_read : Result Progress FileFault → Draft → Result Draft FileFault → Result Draft FileFault

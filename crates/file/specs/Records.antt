@@ -1,28 +1,9 @@
--- Records: one byte of kind, then a body whose length the kind fixes.
-use Rattle.std.specs.Prelude.{ℕ, ◌+◌, ◌*◌, cond, List, [], ◌∷◌, Some, None, Option, ◌==◌, slice_index}
+-- What the bodies of records say.
+use Rattle.std.specs.Prelude.{ℕ, ◌+◌, ◌*◌, List, [], ◌∷◌, slice_index}
 use Rattle.draft.specs.declared.flow.Flow.{Flow}
 use Rattle.draft.specs.declared.path.Path.{Path}
 use Rattle.draft.specs.declared.port.Port.{Port}
 use Rattle.draft.specs.declared.table.Row.{Row}
-
--- P, F, B and E: port, flow, burst row, end
-abbrev pub port_kind : ℕ
-port_kind = 0x50
-
-abbrev pub flow_kind : ℕ
-flow_kind = 0x46
-
-abbrev pub row_kind : ℕ
-row_kind = 0x42
-
-abbrev pub end_kind : ℕ
-end_kind = 0x45
-
--- the length of a body, for the kinds that there are
-abbrev pub body_length : ℕ → Option ℕ
-body_length kind =
-    cond (kind == port_kind) (Some 16)
-    (cond (kind == flow_kind) (Some 26) (cond (kind == row_kind) (Some 33) (cond (kind == end_kind) (Some 4) None)))
 
 -- four bytes from place i on, the highest first
 abbrev pub number_at : List ℕ → ℕ → ℕ

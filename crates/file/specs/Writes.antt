@@ -1,12 +1,12 @@
 -- The file of a draft, record by record: every port, then every flow, then every row, then the end.
-use Rattle.std.specs.Prelude.{ℕ, zero, suc, ◌+◌, ◌*◌, ◌/◌, ◌%◌, Bool, cond, ◌&&◌, List, [], ◌∷◌, ◌++◌, length, take, drop, is_some, Some, None, Option, nat_le, slice_index}
+use Rattle.std.specs.Prelude.{ℕ, zero, suc, ◌+◌, ◌*◌, ◌/◌, ◌%◌, Bool, cond, ◌&&◌, List, [], ◌∷◌, ◌++◌, length, drop, is_some, Some, None, Option, nat_le, slice_index}
 use Rattle.draft.specs.Plans.{flow_at, hop_port, hops, port_at, row_at}
 use Rattle.draft.specs.declared.draft.Draft.{Draft}
 use Rattle.draft.specs.declared.flow.Flow.{Flow}
 use Rattle.draft.specs.declared.port.Port.{Port}
 use Rattle.draft.specs.declared.table.Row.{Row}
 use Rattle.file.specs.Counts.{flows, ports, rows}
-use Rattle.file.specs.Records.{row_kind, end_kind, flow_kind, port_kind}
+use Rattle.file.specs.Kinds.{end_kind, flow_kind, port_kind, row_kind}
 
 -- a number below 2 ^ 32 in four bytes, the highest first
 abbrev pub bytes_of : ℕ → List ℕ
@@ -58,10 +58,6 @@ encoded d = front d ++ end_record (ports d + flows d + rows d)
 
 abbrev pub encoded_size : Draft → ℕ
 encoded_size d = 17 * ports d + 27 * flows d + 34 * rows d + 5
-
--- a place after bytes were written into it from a place on
-abbrev pub written : List ℕ → ℕ → List ℕ → List ℕ
-written xs at ys = take at xs ++ (ys ++ drop (at + length ys) xs)
 
 -- a file can say no more than this
 abbrev pub few : Draft → Bool

@@ -4,7 +4,7 @@ ghost use Rattle.file.specs.Faults.{refusal_of};
 
 use refusal::Refusal;
 
-#[derive(Clone, Copy)]
+#[derive(Clone, Copy, Debug, PartialEq, Eq)]
 pub enum FileFault {
     // The file ends in a record, or without an end record.
     Cut(usize),

@@ -3,13 +3,14 @@ ghost use Rattle.std.specs.Prelude.{◌≡◌, ◌+◌, ◌≤◌, length};
 ghost use Rattle.file.specs.Records.{flow_of, number_at, path_of, port_of, row_of};
 
 use draft::{Flow, Mask, Path, Port, Row};
+use std::array;
 
 // Four bytes from `at` on, the highest first.
 pub(crate) fn number(body: &[u8], at: usize) -> u32
     requires { at + 4 ≤ length body.now }
     ensures { result ≡ number_at body.now at }
 {
-    u32::from_be_bytes([body[at], body[at + 1], body[at + 2], body[at + 3]])
+    u32::from_be_bytes(array::from_fn(|k| body[at + k]))
 }
 
 // The port of a P record.
@@ -29,12 +30,9 @@ fn path(body: &[u8]) -> Path
     requires { 26 ≤ length body.now }
     ensures { result ≡ path_of body.now }
 {
-    let ports = [
-        body[18], body[19], body[20], body[21], body[22], body[23], body[24], body[25],
-    ];
     Path {
         hops: body[16],
-        ports,
+        ports: array::from_fn(|hop| body[18 + hop]),
     }
 }
 
@@ -58,15 +56,7 @@ pub(crate) fn row(body: &[u8]) -> Row
     requires { 33 ≤ length body.now }
     ensures { result ≡ row_of body.now }
 {
-    let cells = [
-        number(body, 1),
-        number(body, 5),
-        number(body, 9),
-        number(body, 13),
-        number(body, 17),
-        number(body, 21),
-        number(body, 25),
-        number(body, 29),
-    ];
-    Row { cells }
+    Row {
+        cells: array::from_fn(|hop| number(body, 1 + 4 * hop)),
+    }
 }

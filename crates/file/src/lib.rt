@@ -5,7 +5,7 @@ pub mod encoder;
 pub mod fault;
 mod fields;
 mod filling;
-mod kinds;
+mod kind;
 pub mod reader;
 
 pub use encoder::encode;

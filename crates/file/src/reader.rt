@@ -1,8 +1,7 @@
 // The reader: a place in the file, and what the records before it said.
 ghost use Rattle.std.specs.Prelude.{◌≤◌, length};
-ghost use Rattle.file.specs.Counts.{Few};
 
-use draft::Draft;
+use crate::filling::Filling;
 
 mod steps;
 mod whole;
@@ -10,7 +9,7 @@ mod whole;
 pub use whole::read;
 
 // Whether more records are to come.
-#[derive(Clone, Copy)]
+#[derive(Clone, Copy, Debug, PartialEq, Eq)]
 pub enum Progress {
     More,
     Done,
@@ -21,7 +20,6 @@ pub enum Progress {
 pub struct Reader<'a> {
     bytes: &'a [u8],
     at: usize,
-    draft: Draft,
+    filling: Filling,
     ghost within: { at ≤ length bytes.now },
-    ghost few: { Few draft },
 }

@@ -9,16 +9,14 @@ use crate::fault::FileFault;
 use draft::Draft;
 
 // The records from where the reader stands, so many at the most.
+#[tactic(auto, using(crate::proofs::Steps::read_left))]
 fn records(mut reader: Reader, most: usize) -> Result<Draft, FileFault>
-    ensures { result ≡ read_from most reader.entry.draft reader.entry.at reader.entry.bytes.now }
+    ensures { result ≡ read_from most reader.entry.filling.draft reader.entry.at reader.entry.bytes.now }
 {
     for _turn in 0..most {
-        match reader.step() {
-            Ok(progress) => match progress {
-                Progress::More => {}
-                Progress::Done => return Ok(reader.draft),
-            },
-            Err(fault) => return Err(fault),
+        match reader.step()? {
+            Progress::More => {}
+            Progress::Done => return Ok(reader.filling.draft),
         }
     }
     Err(FileFault::Cut(reader.at))
@@ -27,7 +25,7 @@ fn records(mut reader: Reader, most: usize) -> Result<Draft, FileFault>
 // At the first record of a file; its numbers are bytes, so that no other file says the same.
 fn start<'a>(bytes: &'a [u8]) -> Reader<'a>
     ensures bytes { result.bytes.now ≡ bytes.now }
-    ensures start { (result.at ≡ 0) × (result.draft ≡ empty_draft) }
+    ensures start { (result.at ≡ 0) × (result.filling.draft ≡ empty_draft) }
     ensures sole { Sole bytes.now }
 {
     Reader::new(bytes)

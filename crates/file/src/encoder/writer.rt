@@ -1,0 +1,12 @@
+// A lent place, and how much of it is written.
+ghost use Rattle.std.specs.Prelude.{◌≤◌, length};
+
+mod methods;
+
+// Bytes are written into the place one behind the other, from its front on.
+#[derive(Drop)]
+pub(crate) struct Writer<'a> {
+    place: &'a mut [u8],
+    at: usize,
+    ghost within: { at ≤ length place.now },
+}
