@@ -1,7 +1,7 @@
 // Kits by chance, from a fixed seed: rings, nets with regulators, and proposed rows about the least ones.
 ghost use Rattle.std.specs.Prelude.{◌≤◌};
 
-use crate::second::{Outcome, Second};
+use crate::second::Second;
 use draft::{Draft, Flow, Mask, Path, Port};
 
 // A sequence of numbers that looks like chance.
@@ -45,9 +45,9 @@ impl Seed {
             hops: hops.min(8) as u8,
             ports: [255; 8],
         };
-        for k in 0..8u32 {
-            if k < hops {
-                path.ports[k as usize] = ((first.min(1000) + k) % ports.max(1) % 32) as u8;
+        for (k, port) in path.ports.iter_mut().enumerate() {
+            if k < hops as usize {
+                *port = ((first.min(1000) + k as u32) % ports.max(1) % 32) as u8;
             }
         }
         path
@@ -55,19 +55,19 @@ impl Seed {
 
     fn add_port(&mut self, draft: &mut Draft, rate: u32) {
         let n = draft.parts.size.ports;
-        if n < 32 {
-            draft.parts.ports[n] = self.port(rate);
+        if let Some(place) = draft.parts.ports.get_mut(n) {
+            *place = self.port(rate);
             draft.parts.size.ports = n + 1;
         }
     }
 
     fn add_flow(&mut self, draft: &mut Draft, rate: u32, path: Path, mask: u8) {
         let n = draft.parts.size.flows;
-        if n < 64 {
+        if let Some(place) = draft.parts.flows.get_mut(n) {
             let shortest = 1512 + self.below(500);
             let longest = shortest + self.below(500);
             let burst = longest + self.below(3000);
-            draft.parts.flows[n] = Flow {
+            *place = Flow {
                 rate,
                 burst,
                 shortest,
@@ -120,8 +120,7 @@ impl Seed {
     pub fn proposal(&mut self, kit: Draft) -> Draft {
         let mut draft = kit;
         let mut second = Second::new(&kit.parts);
-        let outcome = second.outcome(&kit);
-        if let Outcome::Accepted = outcome {
+        if second.judge(&kit).is_ok() {
             second.lay(&mut draft);
             let f = self.below(kit.parts.size.flows.min(64) as u32).min(63) as usize;
             let k = self.below(u32::from(kit.parts.flows[f].path.hops)).min(7) as usize;

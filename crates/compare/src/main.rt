@@ -7,14 +7,14 @@ mod second;
 use draft::Draft;
 use file::encode;
 use kits::Seed;
-use printing::quote_of;
-use refusal::Refusal;
-use second::{Outcome, Second};
-use std::io;
-use table::Quote;
+use plan::PlanFault;
+use printing::{SheetFault, quote_of};
+use second::{Fault, Second};
+use std::{fmt, io};
+use table::{Quote, TableFault};
 
 // How many kits of a family were compared, by their outcome, and how many differ.
-#[derive(Clone, Copy)]
+#[derive(Clone, Copy, Default)]
 struct Tally {
     accepted: u32,
     low: u32,
@@ -25,8 +25,24 @@ struct Tally {
     differing: u32,
 }
 
+impl fmt::Display for Tally {
+    fn fmt<W: fmt::Write>(&self, f: &mut fmt::Formatter<W>) -> fmt::Result {
+        write!(
+            f,
+            "{} accepted, {} low, {} crowded, {} climbing, {} overloaded, {} undecided, {} differing",
+            self.accepted,
+            self.low,
+            self.crowded,
+            self.climbing,
+            self.overloaded,
+            self.undecided,
+            self.differing
+        )
+    }
+}
+
 // What a comparison comes to; where the library's rounds run out, nothing is decided.
-#[derive(Clone, Copy)]
+#[derive(Clone, Copy, Debug, PartialEq, Eq)]
 enum Verdict {
     Same,
     Undecided,
@@ -44,113 +60,63 @@ fn judged(same: bool) -> Verdict {
 // Whether every figure of a quote is the second calculation's.
 fn same_figures(quote: &Quote, second: &Second) -> bool {
     let size = quote.plan.parts.size;
-    for p in 0..size.ports {
-        if quote.port_delay(p) != second.delay(p) || quote.port_backlog(p) != second.backlog(p) {
-            return false;
-        }
-    }
-    for f in 0..size.flows {
-        if quote.flow_delay(f) != second.flow_delay(f) {
-            return false;
-        }
-    }
-    true
+    (0..size.ports).all(|p| {
+        quote.port_delay(p) == second.delay(p) && quote.port_backlog(p) == second.backlog(p)
+    }) && (0..size.flows).all(|f| quote.flow_delay(f) == second.flow_delay(f))
 }
 
-// Whether a refusal is the one that the second calculation calls for.
-fn same_refusal(refusal: Refusal, outcome: Outcome) -> bool {
-    match outcome {
-        Outcome::Accepted => false,
-        Outcome::Low(cell) => refusal.number == 21 && refusal.place == cell,
-        Outcome::Crowded(at) => refusal.number == 23 && refusal.place == at,
-        Outcome::Climbing => refusal.number == 24,
-        Outcome::Overloaded(port) => refusal.number == 16 && refusal.place == port,
+// Whether the library's fault is the one that the second calculation calls for.
+fn same_fault(fault: SheetFault, second: Fault) -> bool {
+    match (fault, second) {
+        (SheetFault::Table(TableFault::Low(cell)), Fault::Low(at)) => cell == at,
+        (SheetFault::Table(TableFault::Crowded(place)), Fault::Crowded(at)) => place == at,
+        (SheetFault::Table(TableFault::Climbs(_)), Fault::Climbing) => true,
+        (SheetFault::Plan(PlanFault::Rates(port)), Fault::Overloaded(at)) => port == at,
+        _ => false,
     }
 }
 
 // Whether the library answers a plan file as the second calculation does.
-fn compare(bytes: &[u8], outcome: Outcome, second: &Second) -> Verdict {
-    match quote_of(bytes) {
-        Ok(quote) => match outcome {
-            Outcome::Accepted => judged(same_figures(&quote, second)),
-            _ => Verdict::Differing,
-        },
-        Err(fault) => {
-            let refusal = Refusal::from(fault);
-            if refusal.number == 25 {
-                Verdict::Undecided
-            } else {
-                judged(same_refusal(refusal, outcome))
-            }
-        }
+fn compare(bytes: &[u8], answer: Result<(), Fault>, second: &Second) -> Verdict {
+    match (quote_of(bytes), answer) {
+        (Ok(quote), Ok(())) => judged(same_figures(&quote, second)),
+        (Err(SheetFault::Table(TableFault::Rounds)), _) => Verdict::Undecided,
+        (Err(fault), Err(other)) => judged(same_fault(fault, other)),
+        _ => Verdict::Differing,
     }
 }
 
-fn compare_draft(draft: &Draft, outcome: Outcome, second: &Second) -> Verdict {
+fn compare_draft(draft: &Draft, answer: Result<(), Fault>, second: &Second) -> Verdict {
     let mut place = [0; 4453];
     match encode(draft, &mut place) {
-        Some(size) if size <= 4453 => compare(&place[0..size], outcome, second),
-        _ => Verdict::Differing,
+        Some(size) => compare(&place[..size], answer, second),
+        None => Verdict::Differing,
     }
 }
 
 // Counts a kit; tells whether the two calculations differ on it.
 fn count(tally: &mut Tally, draft: &Draft) -> bool {
     let mut second = Second::new(&draft.parts);
-    let outcome = second.outcome(draft);
-    match compare_draft(draft, outcome, &second) {
-        Verdict::Same => {
-            count_outcome(tally, outcome);
-            false
-        }
-        Verdict::Undecided => {
-            tally.undecided = tally.undecided.saturating_add(1);
-            false
-        }
-        Verdict::Differing => {
-            tally.differing = tally.differing.saturating_add(1);
-            true
-        }
-    }
-}
-
-fn count_outcome(tally: &mut Tally, outcome: Outcome) {
-    match outcome {
-        Outcome::Accepted => tally.accepted = tally.accepted.saturating_add(1),
-        Outcome::Low(_) => tally.low = tally.low.saturating_add(1),
-        Outcome::Crowded(_) => tally.crowded = tally.crowded.saturating_add(1),
-        Outcome::Climbing => tally.climbing = tally.climbing.saturating_add(1),
-        Outcome::Overloaded(_) => tally.overloaded = tally.overloaded.saturating_add(1),
-    }
-}
-
-fn tell(rt: &HostRuntime, name: &str, tally: Tally) -> io::Result<()> {
-    println!(rt;
-        "{name}: {} accepted, {} low, {} crowded, {} climbing, {} overloaded, {} undecided, {} differing",
-        tally.accepted,
-        tally.low,
-        tally.crowded,
-        tally.climbing,
-        tally.overloaded,
-        tally.undecided,
-        tally.differing
-    )
+    let answer = second.judge(draft);
+    let verdict = compare_draft(draft, answer, &second);
+    let counter = match (verdict, answer) {
+        (Verdict::Undecided, _) => &mut tally.undecided,
+        (Verdict::Differing, _) => &mut tally.differing,
+        (Verdict::Same, Ok(())) => &mut tally.accepted,
+        (Verdict::Same, Err(Fault::Low(_))) => &mut tally.low,
+        (Verdict::Same, Err(Fault::Crowded(_))) => &mut tally.crowded,
+        (Verdict::Same, Err(Fault::Climbing)) => &mut tally.climbing,
+        (Verdict::Same, Err(Fault::Overloaded(_))) => &mut tally.overloaded,
+    };
+    *counter = counter.saturating_add(1);
+    verdict == Verdict::Differing
 }
 
 fn main(rt: HostRuntime) -> io::Result<()> {
-    let none = Tally {
-        accepted: 0,
-        low: 0,
-        crowded: 0,
-        climbing: 0,
-        overloaded: 0,
-        undecided: 0,
-        differing: 0,
-    };
     let mut seed = Seed::new(20261117);
-    let mut rings = none;
-    let mut nets = none;
-    let mut proposals = none;
+    let mut rings = Tally::default();
+    let mut nets = Tally::default();
+    let mut proposals = Tally::default();
     for i in 0..200u32 {
         if count(&mut rings, &seed.ring()) {
             println!(rt; "ring {i} differs")?;
@@ -163,7 +129,7 @@ fn main(rt: HostRuntime) -> io::Result<()> {
             println!(rt; "proposal {i} differs")?;
         }
     }
-    tell(&rt, "rings", rings)?;
-    tell(&rt, "nets", nets)?;
-    tell(&rt, "proposals", proposals)
+    println!(rt; "rings: {rings}")?;
+    println!(rt; "nets: {nets}")?;
+    println!(rt; "proposals: {proposals}")
 }

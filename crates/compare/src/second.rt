@@ -1,180 +1,151 @@
 // The second calculation: cells are raised one at a time, from the last back, until none is below its need.
-ghost use Rattle.std.specs.Prelude.{◌≤◌};
+use draft::limits::{MOST_FLOWS, MOST_HOPS};
+use draft::{Draft, Flow, Parts};
 
-use draft::{Draft, Parts};
-
-// How a kit comes out; places are those of the refusal.
-#[derive(Clone, Copy)]
-pub enum Outcome {
-    Accepted,
-    Low(u64),
-    Crowded(u64),
+// Why a kit has no quote; places are those of the refusal.
+#[derive(Clone, Copy, Debug, PartialEq, Eq)]
+pub enum Fault {
+    Low(usize),
+    Crowded(usize),
     Climbing,
-    Overloaded(u64),
+    Overloaded(usize),
 }
 
-// A plan with its cells in one row, flow × 8 + hop.
+// A plan with its cells, flow by flow and hop by hop.
 #[derive(Clone, Copy)]
 pub struct Second {
     parts: Parts,
-    cells: [u64; 512],
+    cells: [[u64; MOST_HOPS]; MOST_FLOWS],
 }
 
 // No cell may pass this.
 const LIMIT: u64 = 1_000_000_000;
 
+// The least whole number of slots in which a rate covers the bits.
+fn slots(rate: u64, bits: u64) -> u64 {
+    if rate == 0 {
+        return 0;
+    }
+    let whole = bits / rate;
+    if whole.saturating_mul(rate) < bits {
+        whole.saturating_add(1)
+    } else {
+        whole
+    }
+}
+
 impl Second {
     pub fn new(parts: &Parts) -> Second {
         Second {
             parts: *parts,
-            cells: [0; 512],
-        }
-    }
-
-    fn flows(&self) -> usize
-        ensures { result ≤ 64 }
-    {
-        self.parts.size.flows.min(64)
-    }
-
-    fn ports(&self) -> usize
-        ensures { result ≤ 32 }
-    {
-        self.parts.size.ports.min(32)
-    }
-
-    fn hops(&self, f: usize) -> usize
-        ensures { result ≤ 8 }
-    {
-        if f < 64 {
-            (self.parts.flows[f].path.hops as usize).min(8)
-        } else {
-            0
-        }
-    }
-
-    fn port_at(&self, f: usize, k: usize) -> usize {
-        if f < 64 && k < 8 {
-            self.parts.flows[f].path.ports[k] as usize
-        } else {
-            255
+            cells: [[0; MOST_HOPS]; MOST_FLOWS],
         }
     }
 
     fn cell(&self, f: usize, k: usize) -> u64 {
-        if f < 64 && k < 8 {
-            self.cells[f * 8 + k]
-        } else {
-            0
+        match self.cells.get(f) {
+            Some(row) => row.get(k).copied().unwrap_or(0),
+            None => 0,
         }
     }
 
-    fn regulated(&self, f: usize, k: usize) -> bool {
-        f < 64 && k < 8 && self.parts.flows[f].mask.has(k)
-    }
-
-    // The cells, or the rates, of the flows that cross a port, summed.
-    fn sum_at(&self, port: usize, rates: bool) -> u64 {
+    // A weight of each flow and hop at which a port is crossed, summed.
+    fn sum_at<F: Fn(usize, usize) -> u64>(&self, port: usize, weight: F) -> u64
+        requires { F.IsAlwaysCallable weight }
+    {
         let mut sum = 0u64;
-        for f in 0..self.flows() {
-            for k in 0..self.hops(f) {
-                if self.port_at(f, k) == port {
-                    sum = sum.saturating_add(self.weight(f, k, rates));
+        for (f, flow) in self.parts.flows().iter().enumerate() {
+            for (k, crossed) in flow.path.crossed().iter().enumerate() {
+                if usize::from(*crossed) == port {
+                    sum = sum.saturating_add(weight(f, k));
                 }
             }
         }
         sum
     }
 
-    fn weight(&self, f: usize, k: usize, rates: bool) -> u64 {
-        if rates { self.rate(f) } else { self.cell(f, k) }
+    // The cells of the flows that cross a port, summed.
+    fn load(&self, port: usize) -> u64 {
+        self.sum_at(port, |f, k| self.cell(f, k))
     }
 
-    fn rate(&self, f: usize) -> u64 {
-        if f < 64 {
-            u64::from(self.parts.flows[f].rate)
-        } else {
-            0
-        }
-    }
-
-    // The least whole number of slots in which the port's rate covers the bits.
-    fn slots(&self, port: usize, bits: u64) -> u64 {
-        if port >= 32 {
-            return 0;
-        }
-        let rate = u64::from(self.parts.ports[port].rate);
-        if rate == 0 {
-            return 0;
-        }
-        let whole = bits / rate;
-        if whole.saturating_mul(rate) < bits {
-            whole.saturating_add(1)
-        } else {
-            whole
-        }
+    // Their rates, summed.
+    fn rates(&self, port: usize) -> u64 {
+        let flows = self.parts.flows();
+        self.sum_at(port, |f, _k| {
+            flows.get(f).map_or(0, |flow| u64::from(flow.rate))
+        })
     }
 
     pub fn delay(&self, port: usize) -> u64 {
-        if port >= 32 {
-            return 0;
+        match self.parts.ports.get(port) {
+            Some(figures) => u64::from(figures.latency).saturating_add(slots(
+                u64::from(figures.rate),
+                self.load(port),
+            )),
+            None => 0,
         }
-        u64::from(self.parts.ports[port].latency).saturating_add(self.slots(
-            port,
-            self.sum_at(port, false),
-        ))
     }
 
     pub fn backlog(&self, port: usize) -> u64 {
-        self.sum_at(port, false)
-            .saturating_add(self.sum_at(port, true).saturating_mul(self.delay(port)))
+        self.load(port)
+            .saturating_add(self.rates(port).saturating_mul(self.delay(port)))
     }
 
     pub fn flow_delay(&self, f: usize) -> u64 {
+        let Some(flow) = self.parts.flows().get(f) else {
+            return 0;
+        };
         let mut sum = 0u64;
-        for k in 0..self.hops(f) {
+        for port in flow.path.crossed() {
             sum = sum
-                .saturating_add(self.delay(self.port_at(f, k)))
+                .saturating_add(self.delay(usize::from(*port)))
                 .saturating_add(1);
         }
         sum.saturating_sub(1)
     }
 
     // What a cell must hold at the least, by the cells as they are.
-    fn need(&self, f: usize, k: usize) -> u64 {
-        if f >= 64 {
+    fn need(&self, f: usize, flow: &Flow, k: usize) -> u64 {
+        if k == 0 || flow.mask.has(k) {
+            return u64::from(flow.burst);
+        }
+        let Some(port) = flow.path.crossed().get(k - 1) else {
             return 0;
-        }
-        if k == 0 || self.regulated(f, k) {
-            return u64::from(self.parts.flows[f].burst);
-        }
-        let port = self.port_at(f, k - 1);
-        if port >= 32 {
+        };
+        let Some(figures) = self.parts.ports.get(usize::from(*port)) else {
             return 0;
-        }
+        };
         let spread = self
-            .delay(port)
-            .saturating_sub(u64::from(self.parts.ports[port].stay));
+            .delay(usize::from(*port))
+            .saturating_sub(u64::from(figures.stay));
         self.cell(f, k - 1)
-            .saturating_add(self.rate(f).saturating_mul(spread))
+            .saturating_add(u64::from(flow.rate).saturating_mul(spread))
     }
 
     // Raises one cell to its need; tells whether it was below.
-    fn raise(&mut self, f: usize, k: usize) -> bool {
-        let need = self.need(f, k);
-        if f >= 64 || k >= 8 || self.cells[f * 8 + k] >= need {
+    fn raise(&mut self, f: usize, flow: &Flow, k: usize) -> bool {
+        let need = self.need(f, flow, k);
+        let Some(row) = self.cells.get_mut(f) else {
+            return false;
+        };
+        let Some(cell) = row.get_mut(k) else {
+            return false;
+        };
+        if *cell >= need {
             return false;
         }
-        self.cells[f * 8 + k] = need;
+        *cell = need;
         true
     }
 
     // Raises every cell once, the last first; tells whether one was below its need.
     fn sweep(&mut self) -> bool {
+        let parts = self.parts;
         let mut raised = false;
-        for f in (0..self.flows()).rev() {
-            for k in (0..self.hops(f)).rev() {
-                if self.raise(f, k) {
+        for (f, flow) in parts.flows().iter().enumerate().rev() {
+            for k in (0..flow.path.crossed().len()).rev() {
+                if self.raise(f, flow, k) {
                     raised = true;
                 }
             }
@@ -182,139 +153,120 @@ impl Second {
         raised
     }
 
-    // Raises cells until none is below its need, or one passes the limit; tells whether it ended.
-    fn settle(&mut self) -> bool {
+    // Raises cells until none is below its need, or one passes the limit.
+    fn settle(&mut self) -> Result<(), Fault> {
         for _ in 0..1_000_000u32 {
             if !self.sweep() {
-                return true;
+                return Ok(());
             }
-            if self.highest() > LIMIT {
-                return false;
+            if self.climbs() {
+                return Err(Fault::Climbing);
             }
         }
-        false
+        Err(Fault::Climbing)
     }
 
-    fn highest(&self) -> u64 {
-        let mut most = 0;
-        for cell in self.cells {
-            most = most.max(cell);
-        }
-        most
+    // Whether a cell passes the limit.
+    fn climbs(&self) -> bool {
+        self.cells
+            .iter()
+            .any(|row| row.iter().any(|cell| *cell > LIMIT))
     }
 
     // The first port whose rate is passed.
-    fn overloaded(&self) -> Option<u64> {
-        for p in 0..self.ports() {
-            if self.sum_at(p, true) > u64::from(self.parts.ports[p].rate) {
-                return Some(p as u64);
+    fn check_rates(&self) -> Result<(), Fault> {
+        for (p, port) in self.parts.ports().iter().enumerate() {
+            if self.rates(p) > u64::from(port.rate) {
+                return Err(Fault::Overloaded(p));
             }
         }
-        None
+        Ok(())
     }
 
     // The first proposed cell below its need.
-    fn low(&self) -> Option<u64> {
-        for f in 0..self.flows() {
-            for k in 0..self.hops(f) {
-                if self.cell(f, k) < self.need(f, k) {
-                    return Some((f * 8 + k) as u64);
+    fn check_needs(&self) -> Result<(), Fault> {
+        for (f, flow) in self.parts.flows().iter().enumerate() {
+            for k in 0..flow.path.crossed().len() {
+                if self.cell(f, k) < self.need(f, flow, k) {
+                    return Err(Fault::Low(f * 8 + k));
                 }
             }
         }
-        None
+        Ok(())
     }
 
     // The slots since the last bucket before hop k, that of a regulator or of the source.
-    fn stretch(&self, f: usize, k: usize) -> u64 {
+    fn stretch(&self, flow: &Flow, k: usize) -> u64 {
         let mut sum = 0u64;
-        for j in (0..k.min(8)).rev() {
+        for (j, port) in flow.path.crossed().iter().take(k).enumerate().rev() {
             sum = sum
-                .saturating_add(self.delay(self.port_at(f, j)))
+                .saturating_add(self.delay(usize::from(*port)))
                 .saturating_add(1);
-            if self.regulated(f, j) {
+            if flow.mask.has(j) {
                 return sum;
             }
         }
         sum
     }
 
-    fn crowded_port(&self) -> Option<u64> {
-        for p in 0..self.ports() {
-            let shortest = u64::from(self.parts.ports[p].shortest).max(1);
-            if self.backlog(p) / shortest > 32 {
-                return Some(p as u64);
+    // The first port with more than 32 frames.
+    fn check_lines(&self) -> Result<(), Fault> {
+        for (p, port) in self.parts.ports().iter().enumerate() {
+            if self.backlog(p) / u64::from(port.shortest).max(1) > 32 {
+                return Err(Fault::Crowded(p));
             }
         }
-        None
+        Ok(())
     }
 
-    fn crowded_regulator(&self) -> Option<u64> {
-        for f in 0..self.flows() {
-            for k in 0..self.hops(f) {
-                if self.regulated(f, k) && self.waiting(f, k) > 16 {
-                    return Some((32 + f * 8 + k) as u64);
+    // The first regulator with more than 16 frames.
+    fn check_regulators(&self) -> Result<(), Fault> {
+        for (f, flow) in self.parts.flows().iter().enumerate() {
+            for k in 0..flow.path.crossed().len() {
+                if flow.mask.has(k) && self.waiting(flow, k) > 16 {
+                    return Err(Fault::Crowded(32 + f * 8 + k));
                 }
             }
         }
-        None
+        Ok(())
     }
 
     // How many frames may wait in a regulator.
-    fn waiting(&self, f: usize, k: usize) -> u64 {
-        if f >= 64 {
-            return 0;
-        }
-        let flow = self.parts.flows[f];
-        let bits = u64::from(flow.burst).saturating_add(
-            self.rate(f).saturating_mul(self.stretch(f, k)),
-        );
+    fn waiting(&self, flow: &Flow, k: usize) -> u64 {
+        let bits = u64::from(flow.burst).saturating_add(u64::from(flow.rate).saturating_mul(
+            self.stretch(flow, k),
+        ));
         bits / u64::from(flow.shortest).max(1)
     }
 
-    fn crowded(&self) -> Option<u64> {
-        match self.crowded_port() {
-            Some(p) => Some(p),
-            None => self.crowded_regulator(),
-        }
-    }
-
     fn propose(&mut self, draft: &Draft) {
-        for f in 0..64usize {
-            for k in 0..8usize {
-                self.cells[f * 8 + k] = u64::from(draft.proposal.table.rows[f].cells[k]);
+        for (cells, row) in self.cells.iter_mut().zip(&draft.proposal.table.rows) {
+            for (cell, proposed) in cells.iter_mut().zip(&row.cells) {
+                *cell = u64::from(*proposed);
             }
         }
     }
 
     // Proposes these cells as rows.
     pub fn lay(&self, draft: &mut Draft) {
-        for f in 0..64usize {
-            for k in 0..8usize {
-                draft.proposal.table.rows[f].cells[k] = self.cells[f * 8 + k].min(LIMIT) as u32;
+        for (row, cells) in draft.proposal.table.rows.iter_mut().zip(&self.cells) {
+            for (proposed, cell) in row.cells.iter_mut().zip(cells) {
+                *proposed = (*cell).min(LIMIT) as u32;
             }
         }
-        draft.proposal.rows = self.flows();
+        draft.proposal.rows = self.parts.flows().len();
     }
 
     // How the kit comes out: by its rows where it proposes any, else by raising.
-    pub fn outcome(&mut self, draft: &Draft) -> Outcome {
-        if let Some(port) = self.overloaded() {
-            return Outcome::Overloaded(port);
-        }
+    pub fn judge(&mut self, draft: &Draft) -> Result<(), Fault> {
+        self.check_rates()?;
         if draft.proposal.rows == 0 {
-            if !self.settle() {
-                return Outcome::Climbing;
-            }
+            self.settle()?;
         } else {
             self.propose(draft);
-            if let Some(cell) = self.low() {
-                return Outcome::Low(cell);
-            }
+            self.check_needs()?;
         }
-        match self.crowded() {
-            Some(at) => Outcome::Crowded(at),
-            None => Outcome::Accepted,
-        }
+        self.check_lines()?;
+        self.check_regulators()
     }
 }
