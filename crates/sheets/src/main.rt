@@ -1,9 +1,10 @@
 // Prints the sheets of many plan files, each after the file's name.
 #![tactic(auto)]
 
-use anyhow::anyhow;
+use anyhow::bail;
 use plan::Plan;
 use printing::print;
+use refusal::Refusal;
 use std::io::Write;
 use std::{env, fs};
 use table::least;
@@ -12,30 +13,29 @@ fn sheet(rt: &HostRuntime, name: &str) -> anyhow::Result<()> {
     let bytes = fs::read(rt, name)?;
     let mut place = [0; 4096];
     println!(rt; "{name}")?;
-    match print(bytes.as_slice(), &mut place) {
-        Ok(count) => rt.stdout().write_all(&place[0..count])?,
-        Err(_) => return Err(anyhow!("the place is too small")),
-    }
+    let Ok(count) = print(&bytes, &mut place) else {
+        bail!("the place is too small");
+    };
+    rt.stdout().write_all(&place[..count])?;
+    Ok(())
+}
+
+// One line: what was too small, and the refusal.
+fn tell(rt: &HostRuntime, what: &str, refusal: Refusal) -> anyhow::Result<()> {
+    println!(rt;
+        "{what}: {} {} {}",
+        refusal.layer, refusal.number, refusal.place
+    )?;
     Ok(())
 }
 
 // The refusals that no file can earn: of a scratch or a place that is too small.
 fn small_memory(rt: &HostRuntime) -> anyhow::Result<()> {
-    let mut scratch = [0; 511];
-    if let Err(fault) = least(Plan::empty(), 1, &mut scratch) {
-        let refusal = fault.refusal();
-        println!(rt;
-            "scratch of 511: {} {} {}",
-            refusal.layer, refusal.number, refusal.place
-        )?;
+    if let Err(fault) = least(Plan::empty(), 1, &mut [0; 511]) {
+        tell(rt, "scratch of 511", fault.refusal())?;
     }
-    let mut place = [0; 4095];
-    if let Err(fault) = print(b"", &mut place) {
-        let refusal = fault.refusal();
-        println!(rt;
-            "place of 4095: {} {} {}",
-            refusal.layer, refusal.number, refusal.place
-        )?;
+    if let Err(fault) = print(b"", &mut [0; 4095]) {
+        tell(rt, "place of 4095", fault.refusal())?;
     }
     Ok(())
 }
