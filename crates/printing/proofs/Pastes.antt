@@ -61,15 +61,15 @@ printed_then q p r cs bs a b =
     }
 
 -- the first n of these lines are printed, and none is longer than k bytes
-pub record Row (q : Queue ℕ) (l : ℕ → List ℕ) (k n : ℕ) (p : Queue ℕ) : Type 0 where
+pub record FirstLines (q : Queue ℕ) (l : ℕ → List ℕ) (k n : ℕ) (p : Queue ℕ) : Type 0 where
   pub printed : Printed q (lines_of l n) p
   pub short : length (lines_of l n) ≤ k * n
 
 -- and one line more
-pub row_more : (q p r : Queue ℕ) (l : ℕ → List ℕ) (k n m : ℕ) (bs : List ℕ) → m ≡ n + 1 → bs ≡ l n → length bs ≤ k → Row q l k n p → Printed p bs r → Row q l k m r
-row_more q p r l k n m bs s e w a b =
+pub first_lines_more : (q p r : Queue ℕ) (l : ℕ → List ℕ) (k n m : ℕ) (bs : List ℕ) → m ≡ n + 1 → bs ≡ l n → length bs ≤ k → FirstLines q l k n p → Printed p bs r → FirstLines q l k m r
+first_lines_more q p r l k n m bs s e w a b =
     let P : List ℕ → Type 0 = λ cs. Printed p cs r in
-    let Q : ℕ → Type 0 = λ i. Row q l k i r in
+    let Q : ℕ → Type 0 = λ i. FirstLines q l k i r in
     subst Q (sym (s ∙ add-one n)) (record {
       printed = printed_then q p r (lines_of l n) (l n) a.printed (subst P e b);
       short = omega (arith, length-append (lines_of l n) (l n), ap length e, w, a.short, mul-suc k n);

@@ -18,6 +18,7 @@ pub length_line : (w ns : List ℕ) → length (line w ns) ≡ length w + sum_by
 length_line w ns =
     omega (arith, length-append (w ++ flat_map field ns) (10 ∷ []), length-append w (flat_map field ns), length-flat_map field ns)
 
+-- the widest line of each word
 pub kit_width : (a b c : ℕ) → a < 100 → b < 100 → c < 2 ^ 64 → length (line (codes "KIT") (a ∷ b ∷ c ∷ [])) ≤ 31
 kit_width a b c x y z = omega (arith, length_line (codes "KIT") (a ∷ b ∷ c ∷ []), narrow a x, narrow b y, wide c z)
 

@@ -45,7 +45,7 @@ pub fn quote_of(bytes: &[u8]) -> Result<Quote, SheetFault>
 // The line that says no.
 fn no_line(out: &mut Queue<u8>, refusal: Refusal)
     ensures after { Printed out.old (no_line refusal) out.new }
-    ensures short { length (no_line refusal) ≤ 4096 }
+    ensures short { length (no_line refusal) ≤ LEAST_PLACE }
 {
     let layer = u64::from(refusal.layer);
     let number = u64::from(refusal.number);
@@ -55,7 +55,7 @@ fn no_line(out: &mut Queue<u8>, refusal: Refusal)
 // The sheet of a quote.
 fn lines(out: &mut Queue<u8>, quote: &Quote)
     ensures after { Printed out.old (quote_sheet (quoted quote.now)) out.new }
-    ensures short { length (quote_sheet (quoted quote.now)) ≤ 4096 }
+    ensures short { length (quote_sheet (quoted quote.now)) ≤ LEAST_PLACE }
 {
     let size = quote.plan.parts.size;
     let figures = quote.figures();

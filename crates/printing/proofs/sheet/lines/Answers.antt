@@ -6,7 +6,7 @@ use Rattle.printing.specs.Lines.{line}
 use Rattle.printing.specs.Prints.{Printed}
 use Rattle.printing.specs.Sheets.{flow_line, kit_line, lines_of, port_line}
 use Rattle.printing.proofs.Pairs.{Over, Pair, pair_turn, pairs_end}
-use Rattle.printing.proofs.Pastes.{Row, printed_then, row_more}
+use Rattle.printing.proofs.Pastes.{FirstLines, printed_then, first_lines_more}
 use Rattle.printing.proofs.Widths.{flow_width, kit_width, port_width}
 use Rattle.printing.proofs.sheet.lines.Goals as goal
 
@@ -26,7 +26,7 @@ loop-p-preserved c =
     let d : c.in-Some.delay.now ≡ delay P Q.table n = turn.left ∙ (get_or-take P.size.ports ds n 0 below ∙ c.figures-figures.ensures.delays n within) in
     let b : c.in-Some.backlog.now ≡ backlog P Q.table n = turn.right ∙ c.figures-figures.ensures.backlogs n within in
     let same = turn.number in
-    row_more c.line.new.out c.loop-p.out c.line-in-loop-p.new.out (port_line P Q.table) 50 n _ (line (codes "PORT") (c.in-Some.p ∷ c.in-Some.delay.now ∷ c.in-Some.backlog.now ∷ [])) (length_push c.loop-p.yielded x) (cc)
+    first_lines_more c.line.new.out c.loop-p.out c.line-in-loop-p.new.out (port_line P Q.table) 50 n _ (line (codes "PORT") (c.in-Some.p ∷ c.in-Some.delay.now ∷ c.in-Some.backlog.now ∷ [])) (length_push c.loop-p.yielded x) (cc)
     (port_width c.in-Some.p c.in-Some.delay.now c.in-Some.backlog.now (omega (arith, same)) (omega arith) (omega arith)) c.loop-p.invariant c.line-in-loop-p.ensures
 
 pub loop-f-preserved : goal.loop-f-preserved
@@ -38,7 +38,7 @@ loop-f-preserved c =
     let within : f < 64 = omega (arith, Q.plan.few.1) in
     let d : D ≡ flow_delay Q.plan.parts Q.table f = c.figures-figures.ensures.flows f within in
     let e = get_or-take Q.plan.parts.size.flows c.figures-figures.result.flows f 0 below in
-    row_more c.loop-p.out c.loop-f.out c.line-in-loop-f.new.out (flow_line Q.plan.parts Q.table) 29 f _ (line (codes "FLOW") (f ∷ D ∷ [])) refl (cc)
+    first_lines_more c.loop-p.out c.loop-f.out c.line-in-loop-f.new.out (flow_line Q.plan.parts Q.table) 29 f _ (line (codes "FLOW") (f ∷ D ∷ [])) refl (cc)
     (flow_width f D (omega arith) (omega (arith, e))) c.loop-f.invariant (rw e at c.line-in-loop-f.ensures)
 
 ports_end : (c : goal.After-loop-f) → length c.loop-p.yielded ≡ c.args.quote.now.plan.parts.size.ports
@@ -58,13 +58,13 @@ returns c =
     let kit = kit_line P Q.rounds in
     let ports = lines_of (port_line P Q.table) P.size.ports in
     let flows = lines_of (flow_line P Q.table) P.size.flows in
-    let Ports : ℕ → Type 0 = λ n. Row c.line.new.out (port_line P Q.table) 50 n c.loop-p.out in
-    let Flows : ℕ → Type 0 = λ n. Row c.loop-p.out (flow_line P Q.table) 29 n c.loop-f.out in
+    let Ports : ℕ → Type 0 = λ n. FirstLines c.line.new.out (port_line P Q.table) 50 n c.loop-p.out in
+    let Flows : ℕ → Type 0 = λ n. FirstLines c.loop-p.out (flow_line P Q.table) 29 n c.loop-f.out in
     let first : Printed q kit c.line.new.out = search rules in
-    let port_row = subst Ports (ports_end c) c.loop-p.invariant in
+    let port_lines = subst Ports (ports_end c) c.loop-p.invariant in
     let all : c.loop-f.f ≡ P.size.flows = omega arith in
-    let flow_row = subst Flows all c.loop-f.invariant in
+    let flow_lines = subst Flows all c.loop-f.invariant in
     record {
-      after = printed_then q c.loop-p.out c.loop-f.out (kit ++ ports) flows (printed_then q c.line.new.out c.loop-p.out kit ports first port_row.printed) flow_row.printed;
-      short = omega (arith, length-append (kit ++ ports) flows, length-append kit ports, kit_width P.size.ports P.size.flows Q.rounds (omega (arith, Q.plan.few.0)) (omega (arith, Q.plan.few.1)) (omega (arith, c.from.ensures)), port_row.short, flow_row.short, Q.plan.few.0, Q.plan.few.1);
+      after = printed_then q c.loop-p.out c.loop-f.out (kit ++ ports) flows (printed_then q c.line.new.out c.loop-p.out kit ports first port_lines.printed) flow_lines.printed;
+      short = omega (arith, length-append (kit ++ ports) flows, length-append kit ports, kit_width P.size.ports P.size.flows Q.rounds (omega (arith, Q.plan.few.0)) (omega (arith, Q.plan.few.1)) (omega (arith, c.from.ensures)), port_lines.short, flow_lines.short, Q.plan.few.0, Q.plan.few.1);
     }
