@@ -1,4 +1,4 @@
--- What the two exported functions answer, as numbers.
+-- What the exported outcome is, as a number.
 use Rattle.std.specs.Prelude.{ℕ, ◌+◌, Ok, Err, Result}
 use Rattle.table.specs.Quotes.{Quoted}
 use Rattle.printing.specs.Faults.{refusal_of}
@@ -8,8 +8,3 @@ use Rattle.printing.specs.declared.fault.SheetFault.{SheetFault}
 abbrev pub outcome : Result Quoted SheetFault → ℕ
 outcome (Ok q) = 256 + q.rounds
 outcome (Err e) = (refusal_of e).number
-
--- the bytes printed, 0 where none are
-abbrev pub count_of : Result ℕ SheetFault → ℕ
-count_of (Ok n) = n
-count_of (Err e) = 0

@@ -2,8 +2,9 @@
 #![tactic(auto)]
 
 ghost use Rattle.std.specs.Prelude.{◌≡◌, length};
+ghost use Rattle.std.specs.Result.{result_unwrap_or};
 ghost use Rattle.printing.specs.Sheets.{place_after, print_answer, sheet_quote};
-ghost use Rattle.foreign.specs.Outcomes.{count_of, outcome};
+ghost use Rattle.foreign.specs.Outcomes.{outcome};
 
 use printing::{print, quote_of};
 use refusal::Refusal;
@@ -22,11 +23,8 @@ pub extern "C" fn hovzirna_outcome(bytes: &[u8]) -> u64
 // The sheet at the front of the place; tells how many bytes it has, 0 where the place is too small.
 #[unsafe(no_mangle)]
 pub extern "C" fn hovzirna_sheet(bytes: &[u8], place: &mut [u8]) -> usize
-    ensures answer { result ≡ count_of (print_answer bytes.now (length place.old)) }
+    ensures answer { result ≡ result_unwrap_or (print_answer bytes.now (length place.old)) 0 }
     ensures after { place.new ≡ place_after bytes.now place.old }
 {
-    match print(bytes, place) {
-        Ok(count) => count,
-        Err(_) => 0,
-    }
+    print(bytes, place).unwrap_or(0)
 }

@@ -1,2 +1,3 @@
+pub mod Pairs
 pub mod Pastes
 pub mod Widths

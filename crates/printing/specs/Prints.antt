@@ -4,13 +4,15 @@ use Rattle.std.proofs.Math.Seq.{paste}
 use Rattle.line.specs.Queues.{memory, room}
 use Rattle.line.specs.declared.queue.Queue.{Queue}
 
--- there is room for so many bytes more
-abbrev pub Room : Queue ℕ → ℕ → Type 0
-Room q n = (q.first ≡ 0) × (q.count + n ≤ room q)
+-- there is room for these bytes behind what is there
+pub record HasRoom (q : Queue ℕ) (bs : List ℕ) : Type 0 where
+  pub first : q.first ≡ 0
+  pub fits : q.count + length bs ≤ room q
 
--- these bytes stand behind what was there, and the rest of the memory is as it was
+-- in the same memory, these bytes stand behind what was there, if there is room, and the rest is as it was
 pub record Printed (q : Queue ℕ) (bs : List ℕ) (p : Queue ℕ) : Type 0 where
-  pub first : p.first ≡ 0
+  pub owner : p.places.ghost_name ≡ q.places.ghost_name
   pub room : room p ≡ room q
-  pub count : p.count ≡ q.count + length bs
-  pub memory : memory p ≡ paste (memory q) q.count bs (length bs)
+  pub first : p.first ≡ q.first
+  pub count : HasRoom q bs → p.count ≡ q.count + length bs
+  pub memory : HasRoom q bs → memory p ≡ paste (memory q) q.count bs (length bs)

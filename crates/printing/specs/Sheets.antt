@@ -10,11 +10,16 @@ use Rattle.refusal.specs.declared.Refusal.{Refusal}
 use Rattle.table.specs.Loads.{backlog, delay}
 use Rattle.table.specs.Paths.{flow_delay}
 use Rattle.table.specs.Quotes.{Quoted, least_answer, quote_answer}
+use Rattle.table.specs.declared.quotes.Quote.{Quote}
 use Rattle.table.specs.declared.fault.TableFault.{TableFault}
 use Rattle.printing.specs.Faults.{refusal_of}
 use Rattle.printing.specs.Lines.{line}
 use Rattle.printing.specs.declared.fault.SheetFault.{SheetFault}
 use Rattle.printing.specs.declared.fault.SheetFault.TheVariants.{Place, Plan, Table as InTable}
+
+-- a quote's plan, table and rounds
+abbrev pub quoted : Quote → Quoted
+quoted q = record { parts = q.plan.parts; table = q.table; rounds = q.rounds }
 
 abbrev pub of_table : Result Quoted TableFault → Result Quoted SheetFault
 of_table (Ok q) = Ok q
@@ -50,7 +55,8 @@ lines_of l (suc n) = lines_of l n ++ l n
 abbrev pub quote_sheet : Quoted → List ℕ
 quote_sheet q =
     kit_line q.parts q.rounds
-    ++ (lines_of (port_line q.parts q.table) q.parts.size.ports ++ lines_of (flow_line q.parts q.table) q.parts.size.flows)
+    ++ lines_of (port_line q.parts q.table) q.parts.size.ports
+    ++ lines_of (flow_line q.parts q.table) q.parts.size.flows
 
 -- the line that says no
 abbrev pub no_line : Refusal → List ℕ

@@ -1,12 +1,11 @@
 // The sheet of a plan file: the quote's lines, or the line that says no.
-ghost use Rattle.std.specs.Prelude.{◌≡◌, ◌+◌, ◌<◌, ◌≤◌, [], ◌∷◌, length, IfOk, Ok, Err, codes, MatchResult};
+ghost use Rattle.std.specs.Prelude.{◌≡◌, ◌≤◌, length, IfOk, Ok, Err, MatchResult};
 ghost use Rattle.table.specs.Quotes.{least_answer, told};
-ghost use Rattle.printing.specs.Lines.{line};
-ghost use Rattle.printing.specs.Prints.{Printed, Room};
-ghost use Rattle.printing.specs.Sheets.{draft_quote, kit_line, no_line, place_after, print_answer, quote_sheet, sheet_quote};
+ghost use Rattle.printing.specs.Prints.{Printed};
+ghost use Rattle.printing.specs.Sheets.{draft_quote, no_line, place_after, print_answer, quote_sheet, quoted, sheet_quote};
 
 use crate::fault::SheetFault;
-use crate::text::{pair, triple};
+use crate::text::line;
 use draft::limits::{MOST_ROUNDS, TABLE_CELLS};
 use line::Queue;
 use plan::{Plan, Planned};
@@ -37,70 +36,44 @@ fn quote_by(planned: Planned) -> Result<Quote, TableFault>
 
 // The quote of a plan file, or its first refusal: the file's, then the plan's, then the table's.
 pub fn quote_of(bytes: &[u8]) -> Result<Quote, SheetFault>
-    ensures { MatchResult result (λ q. sheet_quote bytes.now ≡ Ok (record { parts = q.plan.parts; table = q.table; rounds = q.rounds })) (λ e. sheet_quote bytes.now ≡ Err e) }
+    ensures { MatchResult result (λ q. sheet_quote bytes.now ≡ Ok (quoted q)) (λ e. sheet_quote bytes.now ≡ Err e) }
 {
     let planned = Planned::read(bytes)?;
-    let quote = quote_by(planned)?;
-    Ok(quote)
+    Ok(quote_by(planned)?)
 }
 
-fn kit_line(out: &mut Queue<u8>, quote: &Quote)
-    requires { Room out.old 67 }
-    ensures owner { out.new.places.ghost_name ≡ out.old.places.ghost_name }
-    ensures after { Printed out.old (kit_line quote.now.plan.parts quote.now.rounds) out.new }
-    ensures short { out.new.count ≤ out.old.count + 67 }
-{
-    let size = quote.plan.parts.size;
-    triple(
-        out,
-        b"KIT",
-        size.ports as u64,
-        size.flows as u64,
-        u64::from(quote.rounds),
-    );
-}
-
-fn port_line(out: &mut Queue<u8>, p: usize, delay: u64, backlog: u64)
-    requires { (Room out.old 50) × (p < 32) }
-    ensures owner { out.new.places.ghost_name ≡ out.old.places.ghost_name }
-    ensures after { Printed out.old (line (codes "PORT") (p ∷ delay ∷ backlog ∷ [])) out.new }
-    ensures short { out.new.count ≤ out.old.count + 50 }
-{
-    triple(out, b"PORT", p as u64, delay, backlog);
-}
-
-fn flow_line(out: &mut Queue<u8>, f: usize, delay: u64)
-    requires { (Room out.old 29) × (f < 64) }
-    ensures owner { out.new.places.ghost_name ≡ out.old.places.ghost_name }
-    ensures after { Printed out.old (line (codes "FLOW") (f ∷ delay ∷ [])) out.new }
-    ensures short { out.new.count ≤ out.old.count + 29 }
-{
-    pair(out, b"FLOW", f as u64, delay);
-}
-
+// The line that says no.
 fn no_line(out: &mut Queue<u8>, refusal: Refusal)
-    requires { Room out.old 66 }
-    ensures owner { out.new.places.ghost_name ≡ out.old.places.ghost_name }
     ensures after { Printed out.old (no_line refusal) out.new }
+    ensures short { length (no_line refusal) ≤ LEAST_PLACE }
 {
     let layer = u64::from(refusal.layer);
     let number = u64::from(refusal.number);
-    triple(out, b"NO", layer, number, refusal.place);
+    line(out, b"NO", &[layer, number, refusal.place]);
 }
 
 // The sheet of a quote.
 fn lines(out: &mut Queue<u8>, quote: &Quote)
-    requires { Room out.old 4096 }
-    ensures owner { out.new.places.ghost_name ≡ out.old.places.ghost_name }
-    ensures after { Printed out.old (quote_sheet (record { parts = quote.now.plan.parts; table = quote.now.table; rounds = quote.now.rounds })) out.new }
+    ensures after { Printed out.old (quote_sheet (quoted quote.now)) out.new }
+    ensures short { length (quote_sheet (quoted quote.now)) ≤ LEAST_PLACE }
 {
-    kit_line(out, quote);
+    let size = quote.plan.parts.size;
     let figures = quote.figures();
-    for p in 0..quote.plan.parts.size.ports {
-        port_line(out, p, figures.delays[p], figures.backlogs[p]);
+    line(
+        out,
+        b"KIT",
+        &[
+            size.ports as u64,
+            size.flows as u64,
+            u64::from(quote.rounds),
+        ],
+    );
+    let ports = figures.delays[..size.ports].iter().zip(&figures.backlogs);
+    for (p, (delay, backlog)) in ports.enumerate() {
+        line(out, b"PORT", &[p as u64, *delay, *backlog]);
     }
-    for f in 0..quote.plan.parts.size.flows {
-        flow_line(out, f, figures.flows[f]);
+    for (f, delay) in figures.flows[..size.flows].iter().enumerate() {
+        line(out, b"FLOW", &[f as u64, *delay]);
     }
 }
 

@@ -1,73 +1,36 @@
-// Text and numbers at the end of a queue of bytes.
-ghost use Rattle.std.specs.Prelude.{◌≡◌, ◌+◌, ◌<◌, [], ◌∷◌, length, decimal};
-ghost use Rattle.printing.specs.Lines.{ended, field, line};
-ghost use Rattle.printing.specs.Prints.{Printed, Room};
+// Text and numbers at the end of a queue of bytes; what does not fit is left out.
+ghost use Rattle.std.specs.Prelude.{[], ◌∷◌};
+ghost use Rattle.printing.specs.Lines.{line};
+ghost use Rattle.printing.specs.Prints.{Printed};
 
+use itoa::Buffer;
 use line::Queue;
 
+// Each function takes the queue itself: in a struct around it, what it wrote would not be known of the lent memory.
 fn byte(out: &mut Queue<u8>, b: u8)
-    requires { Room out.old 1 }
-    ensures owner { out.new.places.ghost_name ≡ out.old.places.ghost_name }
-    ensures after { Printed out.old (b ∷ []) out.new }
+    ensures { Printed out.old (b ∷ []) out.new }
 {
     let _ = out.push(b);
 }
 
 fn text(out: &mut Queue<u8>, bytes: &[u8])
-    requires { Room out.old (length bytes.now) }
-    ensures owner { out.new.places.ghost_name ≡ out.old.places.ghost_name }
-    ensures after { Printed out.old bytes.now out.new }
+    ensures { Printed out.old bytes.now out.new }
 {
     for b in bytes {
         byte(out, *b);
     }
 }
 
-// A number in decimal digits.
-fn number(out: &mut Queue<u8>, n: u64)
-    requires { Room out.old (length (decimal n)) }
-    ensures owner { out.new.places.ghost_name ≡ out.old.places.ghost_name }
-    ensures after { Printed out.old (decimal n) out.new }
+// A word, numbers in decimal, each after a blank, and the end of the line.
+// Not by `write!`: that says what was written only where it answers `Ok`, and nothing says that it does.
+pub(crate) fn line(out: &mut Queue<u8>, word: &[u8], numbers: &[u64])
+    ensures { Printed out.old (line word.now numbers.now) out.new }
 {
-    if n < 10 {
-        byte(out, b'0' + n as u8);
-        return;
+    text(out, word);
+    for n in numbers {
+        let mut digits = Buffer::new();
+        byte(out, b' ');
+        text(out, digits.format(*n).as_bytes());
     }
-    number(out, n / 10);
-    byte(out, b'0' + (n % 10) as u8);
-}
-
-// A number after a blank.
-fn field(out: &mut Queue<u8>, n: u64)
-    requires { Room out.old (1 + length (decimal n)) }
-    ensures owner { out.new.places.ghost_name ≡ out.old.places.ghost_name }
-    ensures after { Printed out.old (field n) out.new }
-{
-    byte(out, b' ');
-    number(out, n);
-}
-
-// A word and two numbers.
-pub(crate) fn pair(out: &mut Queue<u8>, word: &[u8], a: u64, b: u64)
-    requires { Room out.old (length word.now + length (decimal a) + length (decimal b) + 3) }
-    ensures owner { out.new.places.ghost_name ≡ out.old.places.ghost_name }
-    ensures after { Printed out.old (line word.now (a ∷ b ∷ [])) out.new }
-{
-    text(out, word);
-    field(out, a);
-    field(out, b);
-    byte(out, b'\n');
-}
-
-// A word and three numbers.
-pub(crate) fn triple(out: &mut Queue<u8>, word: &[u8], a: u64, b: u64, c: u64)
-    requires { Room out.old (length word.now + length (decimal a) + length (decimal b) + length (decimal c) + 4) }
-    ensures owner { out.new.places.ghost_name ≡ out.old.places.ghost_name }
-    ensures after { Printed out.old (line word.now (a ∷ b ∷ c ∷ [])) out.new }
-{
-    text(out, word);
-    field(out, a);
-    field(out, b);
-    field(out, c);
     byte(out, b'\n');
 }

@@ -1,7 +1,7 @@
 // Prints the sheets of many plan files, each after the file's name.
 #![tactic(auto)]
 
-use anyhow::anyhow;
+use anyhow::bail;
 use plan::Plan;
 use printing::print;
 use refusal::Refusal;
@@ -13,21 +13,19 @@ fn sheet(rt: &HostRuntime, name: &str) -> anyhow::Result<()> {
     let bytes = fs::read(rt, name)?;
     let mut place = [0; 4096];
     println!(rt; "{name}")?;
-    match print(bytes.as_slice(), &mut place) {
-        Ok(count) => rt.stdout().write_all(&place[0..count])?,
-        Err(_) => return Err(anyhow!("the place is too small")),
-    }
+    let Ok(count) = print(&bytes, &mut place) else {
+        bail!("the place is too small");
+    };
+    rt.stdout().write_all(&place[..count])?;
     Ok(())
 }
 
 // The refusals that no file can earn: of a scratch or a place that is too small.
 fn small_memory(rt: &HostRuntime) -> anyhow::Result<()> {
-    let mut scratch = [0; 511];
-    if let Err(fault) = least(Plan::empty(), 1, &mut scratch) {
+    if let Err(fault) = least(Plan::empty(), 1, &mut [0; 511]) {
         println!(rt; "scratch of 511: {}", Refusal::from(fault))?;
     }
-    let mut place = [0; 4095];
-    if let Err(fault) = print(b"", &mut place) {
+    if let Err(fault) = print(b"", &mut [0; 4095]) {
         println!(rt; "place of 4095: {}", Refusal::from(fault))?;
     }
     Ok(())

@@ -3,7 +3,4 @@ use Rattle.printing.proofs.text.byte.Goals as goal
 
 pub returns : goal.returns
 returns c =
-    record {
-      owner = c.push.ensures.owner;
-      after = pushed_prints c.args.out.now c.push.new.self c.args.b c.push.result c.requires c.push.ensures.after;
-    }
+    pushed_prints c.args.out.now c.push.new.self c.args.b c.push.result c.push.ensures.owner c.push.ensures.after

@@ -1,6 +1,6 @@
-use Rattle.std.proofs.Common.{◌≡◌, take}
+use Rattle.std.proofs.Common.{take}
 use Rattle.printing.specs.Prints.{Printed}
 use Rattle.printing.proofs.text.text.Given as goal
 
 abbrev pub invariant-loop-b : goal.invariant-loop-b
-invariant-loop-b l = (l.out.places.ghost_name ≡ l.initial.out.places.ghost_name) × Printed l.initial.out (take l.b-index l.bytes) l.out
+invariant-loop-b l = Printed l.initial.out (take l.b-index l.bytes) l.out
