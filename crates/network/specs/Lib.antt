@@ -1,3 +1,4 @@
+pub mod Sources
 pub mod Faults
 pub mod Views
 pub mod Makes

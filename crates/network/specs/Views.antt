@@ -9,6 +9,7 @@ use Rattle.cabinet.specs.Model.{Model, PortModel, port_in}
 use Rattle.regulator.specs.Regulators.{held, no_regulator}
 use Rattle.regulator.specs.declared.regulator.Regulator.{Regulator}
 use Rattle.model.specs.Networks.{State, gated}
+use Rattle.network.specs.Sources.{levels}
 use Rattle.network.specs.declared.network.Network.{Network}
 
 -- The plan with its ports as the cabinet has them. In an open network this is the plan itself.
@@ -57,5 +58,5 @@ net_of means n =
     record {
       is_open = n.«open»;
       parts = seen n.plan.parts (means n.cabinet);
-      state = state_in n.plan.parts (means n.cabinet) n.levels n.regulators;
+      state = state_in n.plan.parts (means n.cabinet) (levels n.sources) n.regulators;
     }

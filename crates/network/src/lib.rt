@@ -3,6 +3,7 @@
 
 pub mod fault;
 pub mod network;
+pub mod source;
 
 pub use fault::NetworkFault;
 pub use network::Network;

@@ -1,13 +1,15 @@
 // How a network is made.
-ghost use Rattle.std.specs.Prelude.{◌≡◌, ℕ, ◌<◌, replicate, slice_index};
+ghost use Rattle.std.specs.Prelude.{◌≡◌, ℕ, ◌<◌, length, replicate};
 ghost use Rattle.draft.specs.Plans.{port_at};
 ghost use Rattle.plan.specs.Limits.{regulators_of};
 ghost use Rattle.cabinet.specs.Model.{port_in};
 ghost use Rattle.regulator.specs.Regulators.{fresh_regulator};
 ghost use Rattle.network.specs.Makes.{Opened, matches, opens, same_figures};
+ghost use Rattle.network.specs.Sources.{first_of, levels};
 ghost use Rattle.network.specs.Views.{net_of};
 
 use super::Network;
+use crate::source::Source;
 use cabinet::Cabinet;
 use draft::limits::MOST_FLOWS;
 use plan::Plan;
@@ -37,15 +39,21 @@ fn fits<C: Cabinet>(plan: &Plan, cabinet: &C) -> bool
     cabinet.fresh() && agrees(plan, cabinet)
 }
 
-// The number of each flow's first regulator.
-fn firsts(plan: &Plan) -> [usize; MOST_FLOWS]
-    ensures { (f : ℕ) → f < plan.now.parts.size.flows → slice_index result f ≡ regulators_of plan.now.parts f }
+// Every flow with a full level, and the number of its first regulator.
+fn sources(plan: &Plan) -> [Source; MOST_FLOWS]
+    ensures long { length result ≡ 64 }
+    ensures full { levels result ≡ replicate 64 4294967295 }
+    ensures numbered { (f : ℕ) → f < plan.now.parts.size.flows → first_of result f ≡ regulators_of plan.now.parts f }
 {
-    let mut found = [0; MOST_FLOWS];
+    let full = Source {
+        level: u32::MAX,
+        first: 0,
+    };
+    let mut found = [full; MOST_FLOWS];
     let mut n = 0;
-    for f in 0..plan.parts.size.flows {
-        found[f] = n;
-        n += plan.parts.flows[f].mask.count() as usize;
+    for (f, flow) in plan.parts.flows().iter().enumerate() {
+        found[f].first = n;
+        n += flow.mask.count() as usize;
     }
     found
 }
@@ -64,14 +72,13 @@ impl<C: Cabinet> Network<C> {
         ensures opened { Opened plan.parts (net_of C.Cabinet.model result) }
     {
         let open = fits(&plan, &cabinet);
-        let firsts = firsts(&plan);
+        let sources = sources(&plan);
         Network {
             plan,
             cabinet,
             open,
-            levels: [u32::MAX; MOST_FLOWS],
+            sources,
             regulators: fresh_regulators(),
-            firsts,
         }
     }
 }

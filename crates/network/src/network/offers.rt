@@ -35,7 +35,7 @@ impl<C: Cabinet> Network<C> {
         if len < w.shortest || len > w.longest {
             return Err(NetworkFault::Length(flow));
         }
-        let level = self.levels[flow].min(w.burst);
+        let level = self.sources[flow].level.min(w.burst);
         if level < len {
             return Err(NetworkFault::Level(flow));
         }
@@ -51,7 +51,7 @@ impl<C: Cabinet> Network<C> {
         match self.cabinet.put(w.path.ports[0] as usize, frame) {
             Err(fault) => Err(turned_away(flow, fault)),
             Ok(_) => {
-                self.levels[flow] = level - len;
+                self.sources[flow].level = level - len;
                 Ok(())
             }
         }

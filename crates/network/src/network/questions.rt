@@ -65,7 +65,8 @@ impl<C: Cabinet> Network<C> {
         ensures { result ≡ (net_of C.Cabinet.model self.now).state.level flow 0 }
     {
         if flow < self.plan.parts.size.flows {
-            self.levels[flow].min(self.plan.parts.flows[flow].burst)
+            let kept = self.sources[flow].level;
+            kept.min(self.plan.parts.flows[flow].burst)
         } else {
             0
         }
@@ -80,7 +81,7 @@ impl<C: Cabinet> Network<C> {
         }
         let mask = self.plan.parts.flows[flow].mask;
         if mask.has(hop) {
-            Some(self.firsts[flow] + mask.before(hop) as usize)
+            Some(self.sources[flow].first + mask.before(hop) as usize)
         } else {
             None
         }

@@ -1,4 +1,4 @@
-use Rattle.std.proofs.Common.{List, replicate, sym, ap, ◌∙◌}
+use Rattle.std.proofs.Common.{ℕ, List, replicate, sym, ap, ◌∙◌}
 use Rattle.plan.proofs.Keeps.{kept_of}
 use Rattle.regulator.specs.declared.regulator.Regulator.{Regulator}
 use Rattle.network.proofs.Makes.{seen_is, state_is}
@@ -14,7 +14,8 @@ returns g c =
       «open» = c.fits-open.ensures;
       opened = λ e. (
         seen_is plan.parts m kept plan.sized.0 (sym c.fits-open.ensures ∙ e),
-        ap (λ (rs : List Regulator). state_in plan.parts m (replicate 64 4294967295) rs) c.fresh_regulators.ensures
+        ap (λ (ls : List ℕ). state_in plan.parts m ls c.fresh_regulators.result) c.sources-sources.ensures.full
+            ∙ ap (λ (rs : List Regulator). state_in plan.parts m (replicate 64 4294967295) rs) c.fresh_regulators.ensures
             ∙ state_is plan.parts m kept plan.sized.0 (sym c.fits-open.ensures ∙ e),
       );
     }
