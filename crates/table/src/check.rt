@@ -46,10 +46,7 @@ fn cells(plan: &Plan, table: &Table) -> Result<(), TableFault>
     ensures { result ≡ cells_answer plan.now.parts table.now }
 {
     for f in 0..plan.parts.size.flows {
-        match cells_in(f, flow_of(plan, f), &table.rows[f]) {
-            Err(fault) => return Err(fault),
-            Ok(_) => {}
-        }
+        cells_in(f, flow_of(plan, f), &table.rows[f])?;
     }
     Ok(())
 }
@@ -81,10 +78,8 @@ fn needs(plan: &Plan, table: &Table) -> Result<(), TableFault>
     ensures { result ≡ and_then (lows_answer plan.now.parts table.now) (crowds_answer plan.now.parts table.now) }
 {
     let figures = reckon(plan, table);
-    match lows(plan, table, &figures.gaps) {
-        Err(low) => Err(low),
-        Ok(_) => crowds_by(plan, &figures),
-    }
+    lows(plan, table, &figures.gaps)?;
+    crowds_by(plan, &figures)
 }
 
 // The first fault of the table.
@@ -111,12 +106,10 @@ pub fn quote(plan: Plan, proposal: Proposal) -> Result<Quote, TableFault>
     if proposal.rows != plan.parts.size.flows {
         return Err(TableFault::Rows(proposal.rows));
     }
-    match check(&plan, proposal.table) {
-        Err(fault) => Err(fault),
-        Ok(_) => Ok(Quote {
-            plan,
-            table: proposal.table,
-            rounds: 0,
-        }),
-    }
+    check(&plan, proposal.table)?;
+    Ok(Quote {
+        plan,
+        table: proposal.table,
+        rounds: 0,
+    })
 }

@@ -82,10 +82,7 @@ fn regulators(plan: &Plan, delays: &[u64; MOST_PORTS]) -> Result<(), TableFault>
     ensures { result ≡ regulators_by plan.now.parts delays.now }
 {
     for f in 0..plan.parts.size.flows {
-        match regulators_in(f, flow_of(plan, f), delays) {
-            Err(fault) => return Err(fault),
-            Ok(_) => {}
-        }
+        regulators_in(f, flow_of(plan, f), delays)?;
     }
     Ok(())
 }
@@ -95,10 +92,8 @@ pub(crate) fn crowds_by(plan: &Plan, figures: &Reckoned) -> Result<(), TableFaul
     requires { Bounded figures.now }
     ensures { (t : Table) → Reckons plan.now.parts t figures.now → result ≡ crowds_answer plan.now.parts t }
 {
-    match lines(plan, figures) {
-        Err(fault) => Err(fault),
-        Ok(_) => regulators(plan, &figures.delays),
-    }
+    lines(plan, figures)?;
+    regulators(plan, &figures.delays)
 }
 
 // The first port, else the first regulator, that a table crowds.
