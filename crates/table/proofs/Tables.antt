@@ -1,12 +1,14 @@
 -- Tables and answers made row by row.
-use Rattle.std.proofs.Common.{◌≡◌, ℕ, ◌<◌, ◌≤◌, cond, ltb, List, length, get_or, Ok, Err, Result, refl, ap, ◌∙◌, ⊎_elim, arith}
+use Rattle.std.proofs.Common.{◌≡◌, ℕ, ◌+◌, ◌-◌, ◌<◌, ◌≤◌, cond, ltb, List, ◌++◌, length, get_or, take, drop, replicate, Ok, Err, Result, refl, ap, ◌∙◌, ⊎_elim, arith}
 use Rattle.std.proofs.lemmas.List.FromFn.{fill_by_all, get_or-map-range_with_len, length-map-range_with_len}
+use Rattle.std.proofs.lemmas.List.{get_or_append_left, get_or-append_right, get_or-drop, get_or-replicate, length-append, length-drop, length-replicate, length-take}
 use Rattle.std.proofs.lemmas.Bool.{cases_lt, cond-false, cond-true, le-ltb, lt-ltb}
 use Rattle.draft.specs.Plans.{flow_at, hops, no_row, row_at}
 use Rattle.draft.specs.declared.flow.Flow.{Flow}
 use Rattle.draft.specs.declared.parts.Parts.{Parts}
 use Rattle.draft.specs.declared.table.Row.{Row}
 use Rattle.draft.specs.declared.table.Table.{Table}
+use Rattle.plan.proofs.Sums.{zeros}
 use Rattle.table.specs.Rounds.{Shaped, Tidy, gives, row_by, table_by, zero_row}
 use Rattle.table.specs.declared.fault.TableFault.{TableFault}
 
@@ -106,3 +108,15 @@ shaped_by P g few =
           );
       rest = λ f lf l. row_of_table P rows f l ∙ cond-false (ltb f P.size.flows) (rows f) zero_row (le-ltb f P.size.flows lf);
     }
+
+-- a row of zeros of which the first n cells were filled
+pub row_filled : (w : Flow) (b n : ℕ) (front : List ℕ) → n ≡ hops w → hops w ≤ 8 → front ≡ replicate (length (take n zero_row.cells)) b
+    → record { cells = front ++ drop n zero_row.cells } ≡ row_by w (λ _. b)
+row_filled w b n front e few q =
+    let zs = zero_row.cells in
+    let m : length (take n zs) ≡ n = omega (arith, length-take n zs) in
+    let long : length front ≡ n = ap length q ∙ length-replicate (length (take n zs)) b ∙ m in
+    row_all w (λ _. b) (record { cells = front ++ drop n zs }) n (omega (arith, length-append front (drop n zs), length-drop n zs)) e (λ k lt. ⊎_elim
+    (λ l. rw (get_or_append_left front (drop n zs) 0 k (omega arith), q, lt-ltb k n l) (get_or-replicate (length (take n zs)) k b 0 (omega arith)))
+    (λ l. rw (get_or-append_right front (drop n zs) n k 0 long l, get_or-drop n zs (k - n) 0, le-ltb k n l) (zeros 8 (n + (k - n))))
+    (cases_lt k n))

@@ -10,7 +10,9 @@ pub mod paths;
 pub mod quotes;
 pub mod reckons;
 pub mod rounds;
+pub mod routes;
 pub mod search;
+pub mod times;
 
 pub use check::quote;
 pub use fault::TableFault;

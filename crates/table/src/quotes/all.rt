@@ -3,40 +3,35 @@ ghost use Rattle.std.specs.Prelude.{◌≡◌, ℕ, ◌<◌, slice_index};
 ghost use Rattle.table.specs.Figures.{Figured};
 ghost use Rattle.table.specs.Loads.{backlog};
 ghost use Rattle.table.specs.Paths.{flow_delay};
-ghost use Rattle.table.specs.Reckons.{Bounded, Reckons};
+ghost use Rattle.table.specs.Reckons.{Reckons};
 
 use super::Quote;
 use super::figures::Figures;
-use crate::crowds::held;
-use crate::loads::{Reckoned, flow_of};
-use crate::paths::delay_along;
-use crate::reckons::reckon;
+use crate::reckons::{Reckoned, reckon};
+use crate::routes::route_of;
 use draft::Table;
 use draft::limits::{MOST_FLOWS, MOST_PORTS};
 use plan::Plan;
 
 // B + r × D of each port, and 0 past the plan's ports.
 fn backlogs(plan: &Plan, ports: &Reckoned) -> [u64; MOST_PORTS]
-    requires { Bounded ports.now }
     ensures { (t : Table) → Reckons plan.now.parts t ports.now → (p : ℕ) → p < 32 → slice_index result p ≡ backlog plan.now.parts t p }
 {
     let rates = plan.rates();
     let mut found = [0; MOST_PORTS];
     for p in 0..plan.parts.size.ports {
-        found[p] = held(ports.loads[p], rates[p], ports.delays[p]);
+        found[p] = ports.backlog(plan, p, rates[p]);
     }
     found
 }
 
 // The delay of each flow, and 0 past the plan's flows.
 fn flow_delays(plan: &Plan, ports: &Reckoned) -> [u64; MOST_FLOWS]
-    requires { Bounded ports.now }
     ensures { (t : Table) → Reckons plan.now.parts t ports.now → (f : ℕ) → f < 64 → slice_index result f ≡ flow_delay plan.now.parts t f }
 {
     let mut found = [0; MOST_FLOWS];
     for f in 0..plan.parts.size.flows {
-        let flow = flow_of(plan, f);
-        found[f] = delay_along(flow, &ports.delays) + (flow.path.hops as u64 - 1);
+        found[f] = route_of(plan, f).delay(&ports.delays);
     }
     found
 }
@@ -50,7 +45,7 @@ impl Quote {
         let backlogs = backlogs(&self.plan, &ports);
         let flows = flow_delays(&self.plan, &ports);
         Figures {
-            delays: ports.delays,
+            delays: ports.delays.slots,
             backlogs,
             flows,
         }

@@ -4,23 +4,26 @@ ghost use Rattle.table.specs.Loads.{backlog, delay};
 ghost use Rattle.table.specs.Paths.{flow_delay};
 
 use super::Quote;
-use crate::loads::{backlog, delay, flow_of};
-use crate::paths::delay_along;
 use crate::reckons::reckon;
+use crate::routes::route_of;
 
 impl Quote {
     // D of a port, and 0 for what is no port.
     pub fn port_delay(&self, p: usize) -> u64
         ensures value { result ≡ delay self.now.plan.parts self.now.table p }
     {
-        delay(&self.plan, &self.table, p)
+        reckon(&self.plan, &self.table).delays.at(p)
     }
 
     // B + r × D of a port, and 0 for what is no port.
     pub fn port_backlog(&self, p: usize) -> u64
         ensures value { result ≡ backlog self.now.plan.parts self.now.table p }
     {
-        backlog(&self.plan, &self.table, p)
+        if p >= self.plan.parts.size.ports {
+            return 0;
+        }
+        let rates = self.plan.rates_through(p);
+        reckon(&self.plan, &self.table).backlog(&self.plan, p, rates)
     }
 
     // The sum of D along a flow's path plus hops - 1, and 0 for what is no flow.
@@ -30,7 +33,6 @@ impl Quote {
         if f >= self.plan.parts.size.flows {
             return 0;
         }
-        let flow = flow_of(&self.plan, f);
-        delay_along(flow, &reckon(&self.plan, &self.table).delays) + (flow.path.hops as u64 - 1)
+        route_of(&self.plan, f).delay(&reckon(&self.plan, &self.table).delays)
     }
 }

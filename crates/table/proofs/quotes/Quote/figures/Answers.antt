@@ -6,7 +6,7 @@ pub returns : goal.returns
 returns c =
     let P = c.args.self.now.plan.parts in
     let t = c.args.self.now.table in
-    let k = c.reckon-ports.ensures.value in
+    let k = c.reckon-ports.ensures in
     record {
       delays = λ p lt. ap (λ (ds : List ℕ). get_or ds p 0) k.delays ∙ delays_at P t p lt;
       backlogs = c.backlogs-backlogs.ensures t k;
