@@ -1,7 +1,8 @@
 -- What a list holds after one of its places is written.
-use Rattle.std.proofs.Common.{◌≡◌, ℕ, zero, suc, ◌+◌, ◌<◌, ◌≤◌, Bool, cond, eqb, ltb, List, length, get_or, set, replicate, sym, refl, ap, ◌∙◌, add-zero, arith, get_or-set_other, get_or-set_same}
+use Rattle.std.proofs.Common.{◌≡◌, ℕ, ◌+◌, ◌-◌, ◌<◌, Bool, cond, ltb, List, ◌++◌, length, get_or, set, drop, sym, ap, ◌∙◌, ⊎_elim, arith, get_or-set_other, get_or-set_same}
 use native.Mathlib.Decide.{dec_lt, ℕ_discrete}
-use Rattle.std.proofs.lemmas.Bool.{eq-eqb, le-ltb, lt-ltb, ne_eqb}
+use Rattle.std.proofs.lemmas.List.{get_or_append_left, get_or-append_right, get_or-drop}
+use Rattle.std.proofs.lemmas.Bool.{cases_lt, cond-false, cond-true, le-ltb, lt-ltb}
 
 same_test : (k i : ℕ) → (k ≡ i → ⊥) → ltb k i ≡ ltb k (i + 1)
 same_test k i q = elim (dec_lt k i) [
@@ -17,9 +18,13 @@ fill_more {X = X} f z xs i x d l e h k lt = elim (ℕ_discrete k i) [
   | no q ↦ rw (get_or-set_other xs i k x d q) (h k lt ∙ ap (λ (b : Bool). cond b (f k) (z k)) (same_test k i q))
 ]
 
--- no place passes m, after one more write neither
-pub set_few : (m n : ℕ) (xs : List ℕ) (i x : ℕ) → length xs ≡ n → x ≤ m → ((k : ℕ) → k < n → get_or xs k 0 ≤ m) → (k : ℕ) → k < n → get_or (set xs i x) k 0 ≤ m
-set_few m n xs i x e h a k lt = elim (ℕ_discrete k i) [
-  | yes q ↦ (let l : i < length xs = omega arith in rw (q, get_or-set_same xs i x 0 l) h)
-  | no q ↦ rw (get_or-set_other xs i k x 0 q) (a k lt)
-]
+-- a list of z whose first n places were written as g says
+pub front_filled : {X : Type 0} (g : ℕ → X) (z d : X) (front all : List X) (n m : ℕ) → length front ≡ n → length all ≡ m
+    → ((k : ℕ) → k < n → get_or front k d ≡ g k) → ((k : ℕ) → k < m → get_or all k d ≡ z) → (k : ℕ) → k < m → get_or (front ++ drop n all) k d ≡ cond (ltb k n) (g k) z
+front_filled g z d front all n m e q h a k lt = ⊎_elim
+    (λ l. get_or_append_left front (drop n all) d k (omega arith) ∙ h k l ∙ sym (cond-true (ltb k n) (g k) z (lt-ltb k n l)))
+    (λ l.
+    let back : n + (k - n) ≡ k = omega arith in
+    get_or-append_right front (drop n all) n k d e l ∙ get_or-drop n all (k - n) d ∙ ap (λ (i : ℕ). get_or all i d) back ∙ a k lt
+    ∙ sym (cond-false (ltb k n) (g k) z (le-ltb k n l)))
+    (cases_lt k n)

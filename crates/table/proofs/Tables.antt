@@ -1,7 +1,7 @@
 -- Tables and answers made row by row.
-use Rattle.std.proofs.Common.{◌≡◌, ℕ, ◌+◌, ◌-◌, ◌<◌, ◌≤◌, cond, ltb, List, ◌++◌, length, get_or, take, drop, replicate, Ok, Err, Result, refl, ap, ◌∙◌, ⊎_elim, arith}
+use Rattle.std.proofs.Common.{◌≡◌, ℕ, ◌<◌, ◌≤◌, cond, ltb, List, ◌++◌, length, get_or, take, drop, replicate, Ok, Err, Result, refl, ap, ◌∙◌, ⊎_elim, arith}
 use Rattle.std.proofs.lemmas.List.FromFn.{fill_by_all, get_or-map-range_with_len, length-map-range_with_len}
-use Rattle.std.proofs.lemmas.List.{get_or_append_left, get_or-append_right, get_or-drop, get_or-replicate, length-append, length-drop, length-replicate, length-take}
+use Rattle.std.proofs.lemmas.List.{get_or-replicate, length-append, length-drop, length-replicate, length-take}
 use Rattle.std.proofs.lemmas.Bool.{cases_lt, cond-false, cond-true, le-ltb, lt-ltb}
 use Rattle.draft.specs.Plans.{flow_at, hops, no_row, row_at}
 use Rattle.draft.specs.declared.flow.Flow.{Flow}
@@ -11,6 +11,7 @@ use Rattle.draft.specs.declared.table.Table.{Table}
 use Rattle.plan.proofs.Sums.{zeros}
 use Rattle.table.specs.Rounds.{Shaped, Tidy, gives, row_by, table_by, zero_row}
 use Rattle.table.specs.declared.fault.TableFault.{TableFault}
+use Rattle.table.proofs.Places.{front_filled}
 
 -- a table whose rows below n are as g says, and the others 0
 pub table_all : (P : Parts) (g : ℕ → Row) (t : Table) (n : ℕ) → length t.rows ≡ 64 → n ≡ P.size.flows
@@ -116,7 +117,5 @@ row_filled w b n front e few q =
     let zs = zero_row.cells in
     let m : length (take n zs) ≡ n = omega (arith, length-take n zs) in
     let long : length front ≡ n = ap length q ∙ length-replicate (length (take n zs)) b ∙ m in
-    row_all w (λ _. b) (record { cells = front ++ drop n zs }) n (omega (arith, length-append front (drop n zs), length-drop n zs)) e (λ k lt. ⊎_elim
-    (λ l. rw (get_or_append_left front (drop n zs) 0 k (omega arith), q, lt-ltb k n l) (get_or-replicate (length (take n zs)) k b 0 (omega arith)))
-    (λ l. rw (get_or-append_right front (drop n zs) n k 0 long l, get_or-drop n zs (k - n) 0, le-ltb k n l) (zeros 8 (n + (k - n))))
-    (cases_lt k n))
+    row_all w (λ _. b) (record { cells = front ++ drop n zs }) n (omega (arith, length-append front (drop n zs), length-drop n zs)) e
+    (front_filled (λ _. b) 0 0 front zs n 8 long refl (λ k l. rw q (get_or-replicate (length (take n zs)) k b 0 (omega arith))) (λ k _. zeros 8 k))

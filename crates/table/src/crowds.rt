@@ -17,9 +17,10 @@ fn lines(plan: &Plan, figures: &Reckoned) -> Result<(), TableFault>
     ensures { result ≡ lines_by plan.now.parts figures.now.loads.bits figures.now.delays.slots }
 {
     let rates = plan.rates();
-    for p in 0..plan.parts.size.ports {
+    let ports = &plan.parts.ports[..plan.parts.size.ports];
+    for (p, port) in ports.iter().enumerate() {
         let held = figures.backlog(plan, p, rates[p]);
-        if held / u64::from(plan.parts.ports[p].shortest) > MOST_WAITING {
+        if held / u64::from(port.shortest) > MOST_WAITING {
             return Err(TableFault::Crowded(p));
         }
     }

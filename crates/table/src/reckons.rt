@@ -36,10 +36,11 @@ pub(crate) fn reckon(plan: &Plan, table: &Table) -> Reckoned
     let loads = loads(plan, table);
     let mut delays = PortTimes::none();
     let mut gaps = PortTimes::none();
-    for p in 0..plan.parts.size.ports {
+    let ports = &plan.parts.ports[..plan.parts.size.ports];
+    for (p, port) in ports.iter().enumerate() {
         let delay = loads.delay(plan, p);
         delays.set(p, delay);
-        gaps.set(p, delay.saturating_sub(u64::from(plan.parts.ports[p].stay)));
+        gaps.set(p, delay.saturating_sub(u64::from(port.stay)));
     }
     Reckoned {
         loads,
@@ -53,8 +54,9 @@ pub(crate) fn set_gaps(plan: &Plan, loads: &PortLoads, found: &mut PortTimes)
     requires { (p : ℕ) → plan.now.parts.size.ports ≤ p → p < 32 → slice_index found.old.slots p ≡ 0 }
     ensures { (t : Table) → Loaded plan.now.parts t loads.now.bits → found.new.slots ≡ gaps plan.now.parts t }
 {
-    for p in 0..plan.parts.size.ports {
+    let ports = &plan.parts.ports[..plan.parts.size.ports];
+    for (p, port) in ports.iter().enumerate() {
         let delay = loads.delay(plan, p);
-        found.set(p, delay.saturating_sub(u64::from(plan.parts.ports[p].stay)));
+        found.set(p, delay.saturating_sub(u64::from(port.stay)));
     }
 }

@@ -31,11 +31,12 @@ impl Route<'_> {
 fn start(plan: &Plan) -> Table
     ensures { result ≡ start plan.now.parts }
 {
-    let mut table = Proposal::none().table;
-    for f in 0..plan.parts.size.flows {
-        table.rows[f] = route_of(plan, f).start_row();
+    let mut rows = Proposal::none().table.rows;
+    let used = &mut rows[..plan.parts.size.flows];
+    for (f, row) in used.iter_mut().enumerate() {
+        *row = route_of(plan, f).start_row();
     }
-    table
+    Table { rows }
 }
 
 // The rounds, until one changes nothing: how many they are, and the last table made.

@@ -1,15 +1,18 @@
-use Rattle.std.proofs.Common.{refl, arith}
-use Rattle.std.proofs.lemmas.List.{get_or-replicate}
-use Rattle.std.proofs.lemmas.Bool.{le-ltb}
+use Rattle.std.proofs.Common.{◌≡◌, ◌++◌, drop, length, refl, ap, ◌∙◌, arith}
+use Rattle.std.proofs.lemmas.List.{get_or-replicate, length-append, length-drop}
 use Rattle.draft.specs.Plans.{flow_at, no_row}
+use Rattle.draft.specs.declared.table.Proposal.{Proposal}
 use Rattle.table.specs.Rounds.{start_row, zero_row}
+use Rattle.table.proofs.Places.{front_filled}
 use Rattle.table.proofs.Tables.{table_all}
 use Rattle.table.proofs.search.start.Goals as goal
 
-pub loop-f-init : goal.loop-f-init
-loop-f-init c = rw c.none.ensures (refl, λ g lt. rw (le-ltb g 0 (omega arith)) (get_or-replicate 64 g zero_row no_row lt))
-
 pub returns : goal.returns
 returns c =
-    let P = c.args.plan.now.parts in
-    table_all P (λ g. start_row (flow_at P g)) c.loop-f.table c.loop-f.f c.loop-f.invariant.0 (omega arith) c.loop-f.invariant.1
+    let P = c.args.plan.now in
+    let n = P.parts.size.flows in
+    let front = c.loop-f.used in
+    let zs = c.none.result.table.rows in
+    let long : length zs ≡ 64 = ap (λ (x : Proposal). length x.table.rows) c.none.ensures in
+    table_all P.parts (λ g. start_row (flow_at P.parts g)) (record { rows = front ++ drop n zs }) n (omega (arith, length-append front (drop n zs), length-drop n zs, P.few.1)) refl
+    (front_filled (λ g. start_row (flow_at P.parts g)) zero_row no_row front zs n 64 c.loop-f.invariant.0 long (λ k l. c.loop-f.invariant.1 k (omega arith)) (λ k l. rw c.none.ensures (get_or-replicate 64 k zero_row no_row l)))

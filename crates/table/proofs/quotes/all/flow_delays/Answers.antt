@@ -1,7 +1,13 @@
-use Rattle.std.proofs.Common.{refl, arith}
-use Rattle.std.proofs.lemmas.Bool.{le-ltb}
+use Rattle.std.proofs.Common.{ℕ, ◌+◌, ◌-◌, cond, ltb, List, refl, ap, ◌∙◌, arith}
+use Rattle.draft.specs.Plans.{flow_at, hops}
 use Rattle.plan.proofs.Sums.{zeros}
+use Rattle.table.specs.Paths.{delay_along}
+use Rattle.table.proofs.Places.{front_filled}
 use Rattle.table.proofs.quotes.all.flow_delays.Goals as goal
 
-pub loop-f-init : goal.loop-f-init
-loop-f-init c = (refl, λ k lt. rw (le-ltb k 0 (omega arith)) (zeros 64 k))
+pub returns : goal.returns
+returns c = λ t k f lt.
+    let P = c.args.plan.now.parts in
+    let by : List ℕ → ℕ → ℕ = λ ds f. delay_along (flow_at P f) ds (hops (flow_at P f)) + (hops (flow_at P f) - 1) in
+    front_filled (by c.args.reckoned.now.delays.slots) 0 0 c.loop-f.used _ P.size.flows 64 c.loop-f.invariant.0 refl (λ j l. c.loop-f.invariant.1 j (omega arith)) (λ j _. zeros 64 j) f lt
+    ∙ ap (λ (ds : List ℕ). cond (ltb f P.size.flows) (by ds f) 0) k.delays
