@@ -97,7 +97,8 @@ fn lines(out: &mut Queue<u8>, quote: &Quote)
     kit_line(out, quote);
     let figures = quote.figures();
     for p in 0..quote.plan.parts.size.ports {
-        port_line(out, p, figures.delays[p], figures.backlogs[p]);
+        let port = figures.ports[p];
+        port_line(out, p, port.delay, port.backlog);
     }
     for f in 0..quote.plan.parts.size.flows {
         flow_line(out, f, figures.flows[f]);

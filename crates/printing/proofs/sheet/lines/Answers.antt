@@ -1,4 +1,5 @@
-use Rattle.std.proofs.Common.{◌≡◌, ℕ, suc, ◌+◌, ◌<◌, [], ◌∷◌, ◌++◌, get_or, codes, sym, refl, ◌∙◌, subst, add-one, arith}
+use Rattle.std.proofs.Common.{◌≡◌, ℕ, suc, ◌+◌, ◌<◌, [], ◌∷◌, ◌++◌, codes, sym, refl, ◌∙◌, subst, add-one, arith}
+use Rattle.table.specs.Figures.{port_figures}
 use Rattle.table.specs.Loads.{delay}
 use Rattle.printing.specs.Lines.{line}
 use Rattle.printing.specs.Prints.{Printed}
@@ -17,7 +18,7 @@ loop-p-preserved c =
     let p = c.loop-p.p in
     let i = c.loop-p.invariant in
     let within : p < 32 = omega (arith, c.loop-p-test.true, Q.plan.few.0) in
-    let D : ℕ → Type 0 = λ n. Printed c.loop-p.out (line (codes "PORT") (p ∷ n ∷ get_or c.figures-figures.result.backlogs p 0 ∷ [])) c.port_line.new.out in
+    let D : ℕ → Type 0 = λ n. Printed c.loop-p.out (line (codes "PORT") (p ∷ n ∷ (port_figures c.figures-figures.result p).backlog ∷ [])) c.port_line.new.out in
     let B : ℕ → Type 0 = λ n. Printed c.loop-p.out (line (codes "PORT") (p ∷ delay Q.plan.parts Q.table p ∷ n ∷ [])) c.port_line.new.out in
     let here = subst B (c.figures-figures.ensures.backlogs p within) (subst D (c.figures-figures.ensures.delays p within) c.port_line.ensures.after) in
     let P : ℕ → Type 0 = λ n. Printed q (lines_of L n) c.port_line.new.out in (
