@@ -23,27 +23,25 @@ impl Route<'_> {
         row: &mut Row,
         sums: &mut PortLoads,
     ) -> Result<bool, TableFault>
-        requires tidy { Tidy self.now.flow.now row.old }
+        requires tidy { Tidy self.now.flow.now before.now }
+        requires same { row.old ≡ before.now }
         requires room { (p : ℕ) → p < 32 → slice_index sums.old.bits p ≤ 63 * most_row }
         ensures answer { result ≡ gives (climb_in self.now.number self.now.flow.now gaps.now.slots) (same_row self.now.flow.now gaps.now.slots before.now (hops self.now.flow.now)) }
         ensures after { is_ok result ≡ true → row.new ≡ made_row self.now.flow.now gaps.now.slots }
         ensures loads { is_ok result ≡ true → (p : ℕ) → p < 32 → slice_index sums.new.bits p ≡ slice_index sums.old.bits p + load_in self.now.flow.now (made_row self.now.flow.now gaps.now.slots) p (hops self.now.flow.now) }
         ensures most { is_ok result ≡ true → (p : ℕ) → p < 32 → slice_index sums.new.bits p ≤ slice_index sums.old.bits p + most_row }
     {
-        let mut same = true;
         let mut need = u64::from(self.flow.burst);
-        // by the hop: the cell before is read, the cell made is written, and the need goes by the hop too
+        // by the hop: the cell is written, and the place, the port and the next need go by the hop too
         for k in 0..self.hops() {
             if need > u64::from(MOST_CELL) {
                 return Err(TableFault::Climbs(self.place(k)));
             }
-            let here = need == u64::from(before.cells[k]);
-            same = same && here;
             row.cells[k] = need as u32;
             sums.add(usize::from(self.flow.path.ports[k]), need);
             need = self.need_after(gaps, need, k);
         }
-        Ok(same)
+        Ok(row.cells == before.cells)
     }
 }
 
@@ -67,8 +65,7 @@ fn make_rows(
     // by the flow: row f of both tables, and one of them is written
     for f in 0..plan.parts.size.flows {
         let route = route_of(plan, f);
-        let same = route.make_row(gaps, &table.rows[f], &mut made.rows[f], sums)?;
-        still = still && same;
+        still &= route.make_row(gaps, &table.rows[f], &mut made.rows[f], sums)?;
     }
     Ok(still)
 }

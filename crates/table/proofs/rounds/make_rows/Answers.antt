@@ -14,21 +14,20 @@ use Rattle.table.proofs.Places.{fill_more}
 use Rattle.table.proofs.Tables.{gives_err, gives_ok, table_over, used_row}
 use Rattle.table.proofs.Turns.{rows_at, rows_more}
 use Rattle.table.proofs.rounds.make_rows.Goals as goal
-use Rattle.table.proofs.rounds.make_rows.Goals.{else-still, then-still}
 
-pub returns-in_err-same-clause-answer : goal.returns-in_err-same-clause-answer
-returns-in_err-same-clause-answer c =
+pub returns-in_err-still-clause-answer : goal.returns-in_err-still-clause-answer
+returns-in_err-still-clause-answer c =
     let P = c.args.plan.now.parts in
     let t = c.args.table.now in
     let gs = c.args.gaps.now.slots in
     let f = c.loop-f.f in
     let w = flow_at P f in
     let p = err_from_is_err_and c.from_residual.result c.from_residual.ensures.1 in
-    let e = rw (c.route_of-route.ensures.number, c.route_of-route.ensures.flow) at c.in_err-same.ensures.answer in
+    let e = rw (c.route_of-route.ensures.number, c.route_of-route.ensures.flow) at c.in_err-still.ensures.answer in
     rw (p.1, p.2)
     (ap (λ (r : Result (Unit {0}) TableFault). gives r (still_by P gs t P.size.flows))
-    (rows_at (λ f. climb_in f (flow_at P f) gs) P.size.flows f c.in_err-same.field-0.0 c.loop-f-test.true c.loop-f.invariant.2
-    (gives_err (climb_in f w gs) (same_row w gs (row_at t f) (hops w)) c.in_err-same.field-0.0 e)))
+    (rows_at (λ f. climb_in f (flow_at P f) gs) P.size.flows f c.in_err-still.field-0.0 c.loop-f-test.true c.loop-f.invariant.2
+    (gives_err (climb_in f w gs) (same_row w gs (row_at t f) (hops w)) c.in_err-still.field-0.0 e)))
 
 pub loop-f-preserved : goal.loop-f-preserved
 loop-f-preserved c =
@@ -38,31 +37,25 @@ loop-f-preserved c =
     let f = c.loop-f.f in
     let xs = c.loop-f.made.rows in
     let x = c.make_row.new.row in
-    let within : f < 64 = (omega arith) in
+    let within : f < 64 = omega arith in
     let same = λ (w : Flow). same_row w gs (row_at t f) (hops w) in
     let row = λ (w : Flow). gives (climb_in f w gs) (same w) in
-    let e = gives_ok (climb_in f (flow_at P f) gs) (same (flow_at P f)) c.in_ok-same.same (rw (c.route_of-route.ensures.number, c.route_of-route.ensures.flow) at c.in_ok-same.ensures.answer) in
-    let made : x ≡ made_row (flow_at P f) gs = c.in_ok-same.ensures.after refl ∙ ap (λ (w : Flow). made_row w gs) c.route_of-route.ensures.flow in
+    let e = gives_ok (climb_in f (flow_at P f) gs) (same (flow_at P f)) c.in_ok-still.field-0 (rw (c.route_of-route.ensures.number, c.route_of-route.ensures.flow) at c.in_ok-still.ensures.answer) in
+    let made : x ≡ made_row (flow_at P f) gs = c.in_ok-still.ensures.after refl ∙ ap (λ (w : Flow). made_row w gs) c.route_of-route.ensures.flow in
     let i : f < length xs = omega arith in
-    let before : c.loop-f.still ≡ still_by P gs t f = c.loop-f.invariant.3 in
-    let test = λ (b : Bool). b && same (flow_at P f) in
-    let here : c.if-still.still ≡ test (still_by P gs t f) = elim c.if-still.branch [
-      | then-still o ↦ o.still-is ∙ e.1 ∙ ap test (sym o.if-still.true ∙ before)
-      | else-still o ↦ o.still-is ∙ o.if-still.false ∙ ap test (sym o.if-still.false ∙ before)
-    ] in
     let added : Flow → Row → ℕ → ℕ = λ w r p. load_in w r p (hops w) in
     let used : made_row (flow_at P f) gs ≡ row_at (made_by P gs) f = sym (used_row P (λ f. made_row (flow_at P f) gs) f within c.loop-f-test.true) in (
       length-set xs f x ∙ c.loop-f.invariant.0,
       λ g lt. fill_more (λ g. made_row (flow_at P g) gs) (row_at t) xs f x no_row i made (λ a l. c.loop-f.invariant.1 a (omega arith)) g (omega arith),
       rows_more (λ f. climb_in f (flow_at P f) gs) f c.loop-f.invariant.2 e.0,
-      rw (add-one f) here,
+      rw (add-one f) (ap (λ (b : Bool). b && c.in_ok-still.field-0) c.loop-f.invariant.3 ∙ ap (λ (b : Bool). still_by P gs t f && b) e.1),
       λ p lt.
           rw (add-one f)
-          (c.in_ok-same.ensures.loads refl p lt
+          (c.in_ok-still.ensures.loads refl p lt
           ∙ ap (λ (n : ℕ). n + added c.route_of-route.result.flow.now (made_row c.route_of-route.result.flow.now gs) p) (c.loop-f.invariant.4 p lt)
           ∙ ap (λ (w : Flow). load_of P (made_by P gs) p f + added w (made_row w gs) p) c.route_of-route.ensures.flow
           ∙ ap (λ (r : Row). load_of P (made_by P gs) p f + added (flow_at P f) r p) used),
-      λ p lt. omega (arith, c.in_ok-same.ensures.most refl p lt, c.loop-f.invariant.5 p lt),
+      λ p lt. omega (arith, c.in_ok-still.ensures.most refl p lt, c.loop-f.invariant.5 p lt),
     )
 
 pub returns-clause-after : goal.returns-clause-after

@@ -12,6 +12,5 @@ invariant-loop-k l =
     × ((j : ℕ) → j < 8 → get_or l.row.cells j 0 ≡ cond (ltb j l.k) (made l.self.flow.now l.gaps.slots j) (get_or l.initial.row.cells j 0))
     × (l.need ≡ made l.self.flow.now l.gaps.slots l.k)
     × (first_refusal (λ k. unless (leb (made l.self.flow.now l.gaps.slots k) 1000000000) (Climbs (l.self.number * 8 + k))) l.k ≡ Ok tt)
-    × (l.same ≡ same_row l.self.flow.now l.gaps.slots l.before l.k)
     × ((p : ℕ) → p < 32 → get_or l.sums.bits p 0 ≡ get_or l.initial.sums.bits p 0 + load_in l.self.flow.now (made_row l.self.flow.now l.gaps.slots) p l.k)
     × ((p : ℕ) → p < 32 → get_or l.sums.bits p 0 ≤ get_or l.initial.sums.bits p 0 + l.k * 4294967295)
