@@ -8,6 +8,7 @@ use Rattle.draft.specs.Masks.{regulated}
 use Rattle.draft.specs.Plans.{cell, flow_at, hop_port, hops, port_at, row_at}
 use Rattle.draft.specs.declared.parts.Parts.{Parts}
 use Rattle.draft.specs.declared.table.Table.{Table}
+use Rattle.plan.proofs.Keeps.{kept_of}
 use Rattle.plan.specs.Checks.{faultless}
 use Rattle.table.specs.Accepts.{Accepted, Below, Cells, Hopeless}
 use Rattle.table.specs.Checks.{accepts, cells_answer, crowds_answer, lows_answer, table_answer, unless}
@@ -18,7 +19,7 @@ use Rattle.table.specs.Rounds.{Found, climb, climb_in, find, gives, least_from, 
 use Rattle.table.specs.declared.fault.TableFault.{TableFault}
 use Rattle.table.specs.declared.fault.TableFault.TheVariants.{Cell, Climbs, Crowded, Low, Rounds, Rows, Scratch}
 use Rattle.table.proofs.Exact.{accepted_of, cells_of, crowds_of, lows_of, passed, passes, thens}
-use Rattle.table.proofs.Figures.{flows_few, routed_of, serves_of}
+use Rattle.table.proofs.Figures.{flows_few, routed_of}
 use Rattle.table.proofs.Rises.{frames_rise, gaps_rise, held_rises}
 use Rattle.table.proofs.Tables.{cell_of_row, row_of_table, row_same, table_same}
 
@@ -177,7 +178,7 @@ module _ (P : Parts) (K : faultless P ≡ true) where
   crowds_free : (u t : Table) → Accepted P t → Below P u t → crowds_answer P u ≡ Ok tt
   crowds_free u t a h =
       crowds_of P K u
-      (λ p lp. le_trans (frames_rise P u t h p (port_at P p).shortest (omega (arith, (serves_of P K p lp).shortest_least))) (a.lines p lp))
+      (λ p lp. le_trans (frames_rise P u t h p (port_at P p).shortest (omega (arith, ((kept_of P K).ports p lp).shortest_least))) (a.lines p lp))
       (λ f lf k lk on. le_trans (held_rises P u t h (flow_at P f) (routed_of P K f lf) k (omega arith)) (a.regulators f lf k lk on))
 
   -- a settled table that is crowded shows that there is no least one

@@ -1,6 +1,6 @@
 // Times of ports.
 ghost use Rattle.std.specs.Prelude.{◌≡◌, ℕ, ◌<◌, ◌≤◌, replicate, slice_index, slice_set};
-ghost use Rattle.table.specs.Bounds.{Few, most_delay};
+ghost use Rattle.table.specs.Bounds.{most_delay};
 
 use draft::limits::MOST_PORTS;
 
@@ -8,7 +8,7 @@ use draft::limits::MOST_PORTS;
 #[derive(Clone, Copy)]
 pub struct PortTimes {
     pub slots: [u64; MOST_PORTS],
-    ghost few: { Few slots },
+    ghost few: { (p : ℕ) → p < 32 → slice_index slots p ≤ most_delay },
 }
 
 impl PortTimes {

@@ -2,10 +2,10 @@ use Rattle.std.proofs.Common.{ℕ, ◌+◌, ◌*◌, ◌/◌, ◌<◌, get_or, a
 use Rattle.std.proofs.lemmas.Bool.{le-leb, lt-leb}
 use Rattle.std.proofs.lemmas.List.{get_or-take}
 use Rattle.draft.specs.Plans.{no_port, port_at}
+use Rattle.plan.proofs.Keeps.{kept_of}
 use Rattle.plan.specs.Limits.{rates_through}
 use Rattle.table.specs.Checks.{line_fits}
 use Rattle.table.specs.declared.fault.TableFault.TheVariants.{Crowded}
-use Rattle.table.proofs.Figures.{serves_of}
 use Rattle.table.proofs.Turns.{tests_at, tests_more}
 use Rattle.table.proofs.crowds.lines.Goals as goal
 
@@ -15,7 +15,7 @@ nonzero_div-held c =
     let p = c.loop-p.p in
     let h : p < P.parts.size.ports = omega arith in
     let e = rw (get_or-take P.parts.size.ports P.parts.ports p no_port h) at c.from.ensures in
-    omega (arith, (serves_of P.parts P.kept p h).shortest_least)
+    omega (arith, ((kept_of P.parts P.kept).ports p h).shortest_least)
 
 pub returns-then-held-from-gt-MOST_WAITING : goal.returns-then-held-from-gt-MOST_WAITING
 returns-then-held-from-gt-MOST_WAITING c =
