@@ -1,7 +1,7 @@
 -- Crowded ports and regulators, by figures reckoned before.
-use Rattle.std.proofs.Common.{◌≡◌, ℕ, ◌+◌, ◌*◌, ◌/◌, ◌%◌, ◌^◌, ◌<◌, ◌≤◌, true, false, cond, eqb, ltb, leb, List, get_or, Ok, Result, sym, refl, ap, ◌∙◌, arith}
+use Rattle.std.proofs.Common.{◌≡◌, ℕ, ◌+◌, ◌*◌, ◌/◌, ◌%◌, ◌^◌, ◌<◌, ◌≤◌, true, false, cond, eqb, leb, List, get_or, Ok, Result, sym, refl, ap, ◌∙◌, arith}
 use native.Mathlib.Nat.{zero-div}
-use Rattle.std.proofs.lemmas.Bool.{cond_both, cond-false, cond-true, lt-ltb}
+use Rattle.std.proofs.lemmas.Bool.{cond_both, cond-false}
 use Rattle.refusal.proofs.Orders.{first_refusal_from}
 use Rattle.refusal.specs.Firsts.{and_then}
 use Rattle.draft.specs.Masks.{bit, regulated}
@@ -10,8 +10,8 @@ use Rattle.draft.specs.declared.flow.Flow.{Flow}
 use Rattle.draft.specs.declared.parts.Parts.{Parts}
 use Rattle.draft.specs.declared.table.Table.{Table}
 use Rattle.plan.specs.Limits.{rates_through}
-use Rattle.table.specs.Checks.{crowds_answer, line_fits, lines_answer, lines_by, regulator_fits, regulators_answer, regulators_by, regulators_in, unless}
-use Rattle.table.specs.Loads.{backlog, delay, delays, load}
+use Rattle.table.specs.Checks.{crowds_answer, line_fits, lines_answer, lines_by, regulator_fits, regulators_by, regulators_in, unless}
+use Rattle.table.specs.Loads.{backlog, delays}
 use Rattle.table.specs.Paths.{stretch_by}
 use Rattle.table.specs.Reckons.{Loaded, Reckons}
 use Rattle.table.specs.declared.fault.TableFault.{TableFault}

@@ -3,7 +3,7 @@ use Rattle.std.proofs.Common.{◌≡◌, ℕ, suc, ◌+◌, ◌-◌, ◌<◌, Bo
 use Rattle.draft.specs.declared.parts.Parts.{Parts}
 use Rattle.draft.specs.declared.table.Table.{Table}
 use Rattle.table.specs.Loads.{gaps}
-use Rattle.table.specs.Rounds.{Found, Made, climb, gives, least_from, made_by, round, round_by, settle, still_by}
+use Rattle.table.specs.Rounds.{Made, climb, gives, least_from, made_by, round, round_by, settle, still_by}
 use Rattle.table.specs.declared.fault.TableFault.{TableFault}
 use Rattle.table.specs.declared.fault.TableFault.TheVariants.{Rounds}
 use Rattle.table.proofs.Tables.{gives_err, gives_ok}

@@ -1,5 +1,5 @@
 -- Why the table that a round leaves unchanged is the least, and why there is none where a need climbs past the limit.
-use Rattle.std.proofs.Common.{◌≡◌, ℕ, zero, suc, ◌+◌, ◌-◌, ◌*◌, ◌<◌, ◌≤◌, true, false, cond, eqb, leb, List, get_or, is_ok, Ok, Err, Result, sym, refl, ap, ◌∙◌, subst, le_trans, mul-le-mul_left, add-one, arith}
+use Rattle.std.proofs.Common.{◌≡◌, ℕ, zero, suc, ◌+◌, ◌-◌, ◌*◌, ◌<◌, ◌≤◌, true, false, cond, eqb, leb, List, get_or, is_ok, Ok, Err, sym, refl, ap, ◌∙◌, subst, le_trans, mul-le-mul_left, add-one, arith}
 use native.Mathlib.Decide.{ℕ_discrete}
 use Rattle.std.proofs.lemmas.Bool.{both_ways, eq-eqb, eqb-true, le-leb, le-ltb, leb-true, lt-ltb}
 use Rattle.refusal.proofs.Orders.{all_below_each, all_below_from, first_refusal_each, first_refusal_from}

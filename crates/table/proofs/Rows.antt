@@ -8,7 +8,10 @@ use Rattle.rounding.specs.Quotients.{up}
 use Rattle.draft.specs.Plans.{port_at}
 use Rattle.draft.specs.declared.parts.Parts.{Parts}
 use Rattle.draft.specs.declared.table.Table.{Table}
+use Rattle.plan.proofs.Keeps.{kept_of}
+use Rattle.plan.specs.Checks.{faultless}
 use Rattle.plan.specs.Limits.{rates_through}
+use Rattle.table.specs.Bounds.{most_delay, most_load}
 use Rattle.table.specs.Loads.{backlog, delay, delay_by, delays, gap, gaps, load}
 use Rattle.table.specs.Reckons.{Loaded}
 
@@ -32,6 +35,12 @@ gaps_past P t p past h =
 
 pub up_few : (a b : ℕ) → 1 ≤ b → up a b ≤ a
 up_few a b h = up_least a b a h (le-mul_of_pos_right a h)
+
+-- D of a port by B, no more than the fullest table makes it
+pub delay_few : (P : Parts) → faultless P ≡ true → (p b : ℕ) → p < P.size.ports → b ≤ most_load → delay_by (port_at P p) b ≤ most_delay
+delay_few P e p b h few =
+    let q = (kept_of P e).ports p h in
+    omega (arith, q.latency_most, up_few b (port_at P p).rate q.rate_least)
 
 -- D - m by B, and 0 past the plan's ports
 pub gap_from : (P : Parts) (t : Table) (n p b : ℕ) → n ≡ P.size.ports → b ≡ load P t p

@@ -1,6 +1,5 @@
-use Rattle.std.proofs.Common.{◌≡◌, sym}
+use Rattle.std.proofs.Common.{sym}
 use Rattle.std.proofs.lemmas.Result.{err_from_is_err_and}
-use Rattle.table.specs.Checks.{lows_answer, lows_by}
 use Rattle.table.proofs.check.needs.Goals as goal
 
 pub returns-in_err-lows : goal.returns-in_err-lows

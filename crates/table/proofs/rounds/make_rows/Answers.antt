@@ -1,14 +1,11 @@
-use Rattle.std.proofs.Common.{◌≡◌, ℕ, ◌+◌, ◌<◌, Bool, true, ◌&&◌, length, get_or, Ok, Err, Result, sym, refl, ap, ◌∙◌, subst, add-one, arith}
+use Rattle.std.proofs.Common.{◌≡◌, ℕ, ◌+◌, ◌<◌, Bool, ◌&&◌, length, Result, sym, refl, ap, ◌∙◌, add-one, arith}
 use Rattle.std.proofs.lemmas.Result.{err_from_is_err_and}
 use Rattle.std.proofs.lemmas.List.{length-set}
-use Rattle.std.proofs.lemmas.Bool.{false≢true, le-ltb}
-use Rattle.refusal.specs.Firsts.{first_refusal}
 use Rattle.draft.specs.Plans.{flow_at, hops, no_row, row_at}
 use Rattle.draft.specs.declared.flow.Flow.{Flow}
 use Rattle.draft.specs.declared.table.Row.{Row}
-use Rattle.draft.specs.declared.table.Table.{Table}
 use Rattle.table.specs.Loads.{load_in, load_of}
-use Rattle.table.specs.Rounds.{Tidy, climb, climb_in, gives, made_by, made_row, same_row, still_by}
+use Rattle.table.specs.Rounds.{climb_in, gives, made_by, made_row, same_row, still_by}
 use Rattle.table.specs.declared.fault.TableFault.{TableFault}
 use Rattle.table.proofs.Places.{fill_more}
 use Rattle.table.proofs.Tables.{gives_err, gives_ok, table_over, used_row}

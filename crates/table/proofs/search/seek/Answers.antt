@@ -1,4 +1,3 @@
-use Rattle.std.proofs.Common.{Ok, sym}
 use Rattle.std.proofs.lemmas.Result.{err_from_is_err_and}
 use Rattle.table.proofs.Leasts.{settled_crowded, settled_least}
 use Rattle.table.proofs.search.seek.Goals as goal

@@ -1,4 +1,4 @@
-use Rattle.std.proofs.Common.{◌≡◌, ◌++◌, drop, length, refl, ap, ◌∙◌, arith}
+use Rattle.std.proofs.Common.{◌≡◌, ◌++◌, drop, length, refl, ap, arith}
 use Rattle.std.proofs.lemmas.List.{get_or-replicate, length-append, length-drop}
 use Rattle.draft.specs.Plans.{flow_at, no_row}
 use Rattle.draft.specs.declared.table.Proposal.{Proposal}

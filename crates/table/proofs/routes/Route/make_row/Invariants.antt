@@ -2,7 +2,7 @@ use Rattle.std.proofs.Common.{◌≡◌, ℕ, ◌+◌, ◌*◌, ◌<◌, ◌≤�
 use Rattle.refusal.specs.Firsts.{first_refusal}
 use Rattle.table.specs.Checks.{unless}
 use Rattle.table.specs.Loads.{load_in}
-use Rattle.table.specs.Rounds.{made, made_row, same_row}
+use Rattle.table.specs.Rounds.{made, made_row}
 use Rattle.table.specs.declared.fault.TableFault.TheVariants.{Climbs}
 use Rattle.table.proofs.routes.Route.make_row.Given as goal
 

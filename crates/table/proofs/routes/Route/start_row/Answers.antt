@@ -1,4 +1,3 @@
-use Rattle.std.proofs.Common.{refl, arith}
 use Rattle.table.proofs.Tables.{row_filled}
 use Rattle.table.proofs.routes.Route.start_row.Goals as goal
 
