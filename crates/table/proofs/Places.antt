@@ -18,13 +18,20 @@ fill_more {X = X} f z xs i x d l e h k lt = elim (ℕ_discrete k i) [
   | no q ↦ rw (get_or-set_other xs i k x d q) (h k lt ∙ ap (λ (b : Bool). cond b (f k) (z k)) (same_test k i q))
 ]
 
--- a list of z whose first n places were written as g says
-pub front_filled : {X : Type 0} (g : ℕ → X) (z d : X) (front all : List X) (n m : ℕ) → length front ≡ n → length all ≡ m
-    → ((k : ℕ) → k < n → get_or front k d ≡ g k) → ((k : ℕ) → k < m → get_or all k d ≡ z) → (k : ℕ) → k < m → get_or (front ++ drop n all) k d ≡ cond (ltb k n) (g k) z
-front_filled g z d front all n m e q h a k lt = ⊎_elim
-    (λ l. get_or_append_left front (drop n all) d k (omega arith) ∙ h k l ∙ sym (cond-true (ltb k n) (g k) z (lt-ltb k n l)))
+-- a list whose first n places were written over
+pub front_over : {X : Type 0} (front all : List X) (n : ℕ) (d : X) → length front ≡ n → (k : ℕ) → get_or (front ++ drop n all) k d ≡ cond (ltb k n) (get_or front k d) (get_or all k d)
+front_over front all n d e k = ⊎_elim
+    (λ l. get_or_append_left front (drop n all) d k (omega arith) ∙ sym (cond-true (ltb k n) (get_or front k d) (get_or all k d) (lt-ltb k n l)))
     (λ l.
     let back : n + (k - n) ≡ k = omega arith in
-    get_or-append_right front (drop n all) n k d e l ∙ get_or-drop n all (k - n) d ∙ ap (λ (i : ℕ). get_or all i d) back ∙ a k lt
-    ∙ sym (cond-false (ltb k n) (g k) z (le-ltb k n l)))
+    get_or-append_right front (drop n all) n k d e l ∙ get_or-drop n all (k - n) d ∙ ap (λ (i : ℕ). get_or all i d) back
+    ∙ sym (cond-false (ltb k n) (get_or front k d) (get_or all k d) (le-ltb k n l)))
+    (cases_lt k n)
+
+-- the places below n are as g says, the others as z does
+pub front_filled : {X : Type 0} (g z : ℕ → X) (d : X) (front all : List X) (n m : ℕ) → length front ≡ n
+    → ((k : ℕ) → k < n → get_or front k d ≡ g k) → ((k : ℕ) → k < m → get_or all k d ≡ z k) → (k : ℕ) → k < m → get_or (front ++ drop n all) k d ≡ cond (ltb k n) (g k) (z k)
+front_filled g z d front all n m e h a k lt = front_over front all n d e k ∙ ⊎_elim
+    (λ l. rw (lt-ltb k n l) (h k l))
+    (λ l. rw (le-ltb k n l) (a k lt))
     (cases_lt k n)

@@ -119,7 +119,7 @@ row_filled w b n front e few q =
     let m : length (take n zs) ≡ n = omega (arith, length-take n zs) in
     let long : length front ≡ n = ap length q ∙ length-replicate (length (take n zs)) b ∙ m in
     row_all w (λ _. b) (record { cells = front ++ drop n zs }) n (omega (arith, length-append front (drop n zs), length-drop n zs)) e
-    (front_filled (λ _. b) 0 0 front zs n 8 long refl (λ k l. rw q (get_or-replicate (length (take n zs)) k b 0 (omega arith))) (λ k _. zeros 8 k))
+    (front_filled (λ _. b) (λ _. 0) 0 front zs n 8 long (λ k l. rw q (get_or-replicate (length (take n zs)) k b 0 (omega arith))) (λ k _. zeros 8 k))
 
 -- the cells of a row made over another are the same exactly where a round says so
 pub same_cells : (w : Flow) (gs : List ℕ) (o r : Row) (n : ℕ) → hops w ≤ 8 → length o.cells ≡ 8 → length r.cells ≡ 8 → n ≡ hops w

@@ -9,7 +9,7 @@ use crate::fault::TableFault;
 use crate::loads::PortLoads;
 use crate::routes::{Route, route_of};
 use crate::times::PortTimes;
-use draft::limits::MOST_CELL;
+use draft::limits::{MOST_CELL, MOST_FLOWS};
 use draft::{Row, Table};
 use plan::Plan;
 
@@ -19,18 +19,17 @@ impl Route<'_> {
     fn make_row(
         &self,
         gaps: &PortTimes,
-        before: &Row,
         row: &mut Row,
         sums: &mut PortLoads,
     ) -> Result<bool, TableFault>
-        requires tidy { Tidy self.now.flow.now before.now }
-        requires same { row.old ≡ before.now }
+        requires tidy { Tidy self.now.flow.now row.old }
         requires room { (p : ℕ) → p < 32 → slice_index sums.old.bits p ≤ 63 * most_row }
-        ensures answer { result ≡ gives (climb_in self.now.number self.now.flow.now gaps.now.slots) (same_row self.now.flow.now gaps.now.slots before.now (hops self.now.flow.now)) }
+        ensures answer { result ≡ gives (climb_in self.now.number self.now.flow.now gaps.now.slots) (same_row self.now.flow.now gaps.now.slots row.old (hops self.now.flow.now)) }
         ensures after { is_ok result ≡ true → row.new ≡ made_row self.now.flow.now gaps.now.slots }
         ensures loads { is_ok result ≡ true → (p : ℕ) → p < 32 → slice_index sums.new.bits p ≡ slice_index sums.old.bits p + load_in self.now.flow.now (made_row self.now.flow.now gaps.now.slots) p (hops self.now.flow.now) }
         ensures most { is_ok result ≡ true → (p : ℕ) → p < 32 → slice_index sums.new.bits p ≤ slice_index sums.old.bits p + most_row }
     {
+        let before = row.cells;
         let mut need = u64::from(self.flow.burst);
         // by the hop: the cell is written, and the place, the port and the next need go by the hop too
         for k in 0..self.hops() {
@@ -41,31 +40,28 @@ impl Route<'_> {
             sums.add(usize::from(self.flow.path.ports[k]), need);
             need = self.need_after(gaps, need, k);
         }
-        Ok(row.cells == before.cells)
+        Ok(row.cells == before)
     }
 }
 
-// Each cell of the flows becomes its need, by the gaps of the table before; the sums become the loads of the table made.
+// Each cell of these rows becomes its need, by the gaps of their table; the sums become the loads of the table made.
 // Tells whether nothing changed, or the first need that passes the limit.
 fn make_rows(
     plan: &Plan,
-    table: &Table,
     gaps: &PortTimes,
-    made: &mut Table,
+    rows: &mut [Row; MOST_FLOWS],
     sums: &mut PortLoads,
 ) -> Result<bool, TableFault>
-    requires shape { Shaped plan.now.parts table.now }
-    requires same { made.old ≡ table.now }
+    requires shape { Shaped plan.now.parts (record { rows = rows.old }) }
     requires empty { (p : ℕ) → p < 32 → slice_index sums.old.bits p ≡ 0 }
-    ensures answer { result ≡ gives (climb plan.now.parts gaps.now.slots) (still_by plan.now.parts gaps.now.slots table.now plan.now.parts.size.flows) }
-    ensures after { is_ok result ≡ true → made.new ≡ made_by plan.now.parts gaps.now.slots }
+    ensures answer { result ≡ gives (climb plan.now.parts gaps.now.slots) (still_by plan.now.parts gaps.now.slots (record { rows = rows.old }) plan.now.parts.size.flows) }
+    ensures after { is_ok result ≡ true → record { rows = rows.new } ≡ made_by plan.now.parts gaps.now.slots }
     ensures loads { is_ok result ≡ true → (p : ℕ) → p < 32 → slice_index sums.new.bits p ≡ load plan.now.parts (made_by plan.now.parts gaps.now.slots) p }
 {
     let mut still = true;
-    // by the flow: row f of both tables, and one of them is written
-    for f in 0..plan.parts.size.flows {
-        let route = route_of(plan, f);
-        still &= route.make_row(gaps, &table.rows[f], &mut made.rows[f], sums)?;
+    let used = &mut rows[..plan.parts.size.flows];
+    for (f, row) in used.iter_mut().enumerate() {
+        still &= route_of(plan, f).make_row(gaps, row, sums)?;
     }
     Ok(still)
 }
@@ -87,7 +83,7 @@ pub(crate) fn round(
     ensures after { made.new ≡ (if is_ok result then made_by plan.now.parts gaps.now.slots else table) }
     ensures loads { is_ok result ≡ true → (p : ℕ) → p < 32 → slice_index sums.new.bits p ≡ load plan.now.parts (made_by plan.now.parts gaps.now.slots) p }
 {
-    let still = make_rows(plan, &table, gaps, made, sums);
+    let still = make_rows(plan, gaps, &mut made.rows, sums);
     if still.is_err() {
         *made = table;
     }

@@ -9,5 +9,5 @@ pub returns : goal.returns
 returns c = λ t k f lt.
     let P = c.args.plan.now.parts in
     let by : List ℕ → ℕ → ℕ = λ ds f. delay_along (flow_at P f) ds (hops (flow_at P f)) + (hops (flow_at P f) - 1) in
-    front_filled (by c.args.reckoned.now.delays.slots) 0 0 c.loop-f.used _ P.size.flows 64 c.loop-f.invariant.0 refl (λ j l. c.loop-f.invariant.1 j (omega arith)) (λ j _. zeros 64 j) f lt
+    front_filled (by c.args.reckoned.now.delays.slots) (λ _. 0) 0 c.loop-f.used _ P.size.flows 64 c.loop-f.invariant.0 (λ j l. c.loop-f.invariant.1 j (omega arith)) (λ j _. zeros 64 j) f lt
     ∙ ap (λ (ds : List ℕ). cond (ltb f P.size.flows) (by ds f) 0) k.delays

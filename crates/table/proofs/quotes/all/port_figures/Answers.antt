@@ -40,6 +40,6 @@ returns c = λ t k p lt.
     let r = c.args.reckoned.now in
     let x = c.default-found.result in
     let e : x ≡ both 0 0 = ap (λ (d : ℕ). both d x.backlog) c.default-found.ensures.0 ∙ ap (both 0) c.default-found.ensures.1 in
-    front_filled (λ p. both (get_or r.delays.slots p 0) (get_or r.loads.bits p 0 + rates_through P p * get_or r.delays.slots p 0)) (both 0 0) (both 0 0) c.loop-p.used _ P.size.ports 32 c.loop-p.invariant.0 refl
+    front_filled (λ p. both (get_or r.delays.slots p 0) (get_or r.loads.bits p 0 + rates_through P p * get_or r.delays.slots p 0)) (λ _. both 0 0) (both 0 0) c.loop-p.used _ P.size.ports 32 c.loop-p.invariant.0
     (λ j l. c.loop-p.invariant.1 j (omega arith)) (λ j l. get_or-replicate 32 j x (both 0 0) l ∙ e) p lt
     ∙ reckoned P t r k p lt

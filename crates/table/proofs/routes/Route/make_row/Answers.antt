@@ -22,7 +22,7 @@ returns-then-need-from-clause-answer c =
     let k = c.loop-k.k in
     let high : leb (made w gs k) 1000000000 ≡ false = lt-leb (made w gs k) 1000000000 (omega arith) in
     rw c.place.ensures
-    (ap (λ (r : Result (Unit {0}) TableFault). gives r (same_row w gs c.args.before.now (hops w)))
+    (ap (λ (r : Result (Unit {0}) TableFault). gives r (same_row w gs c.args.row.now (hops w)))
     (tests_at (λ k. leb (made w gs k) 1000000000) (λ k. Climbs (c.args.self.now.number * 8 + k)) (hops w) k (omega arith) c.loop-k.invariant.3 high))
 
 pub loop-k-preserved : goal.loop-k-preserved
@@ -55,19 +55,14 @@ pub returns-clause-answer : goal.returns-clause-answer
 returns-clause-answer c =
     let w = c.args.self.now.flow.now in
     let gs = c.args.gaps.now.slots in
-    let old = c.args.before.now in
+    let old = c.args.row.now in
     let k = c.loop-k.k in
     let e : k ≡ hops w = omega arith in
-    let cells : (j : ℕ) → j < 8 → get_or c.loop-k.row.cells j 0 ≡ cond (ltb j k) (made w gs j) (get_or old.cells j 0) =
-    λ j lt. c.loop-k.invariant.1 j lt ∙ ap (λ (o : Row). cond (ltb j k) (made w gs j) (get_or o.cells j 0)) c.requires.same in
-    ap Ok (same_from_decides c.eq.result (same_row w gs old (hops w)) (slice_eq-Decides Decides-eqb c.loop-k.row.cells old.cells c.eq.result c.eq.ensures) (same_cells w gs old c.loop-k.row k c.args.self.now.routed.hops_most c.requires.tidy.0 c.loop-k.invariant.0 e cells))
+    ap Ok (same_from_decides c.eq.result (same_row w gs old (hops w)) (slice_eq-Decides Decides-eqb c.loop-k.row.cells old.cells c.eq.result c.eq.ensures) (same_cells w gs old c.loop-k.row k c.args.self.now.routed.hops_most c.requires.tidy.0 c.loop-k.invariant.0 e c.loop-k.invariant.1))
     ∙ ap (λ (r : Result (Unit {0}) TableFault). gives r (same_row w gs old (hops w)))
     (tests_all (λ k. leb (made w gs k) 1000000000) (λ k. Climbs (c.args.self.now.number * 8 + k)) (hops w) k e c.loop-k.invariant.3)
 
 pub returns-clause-after : goal.returns-clause-after
 returns-clause-after c =
     let w = c.args.self.now.flow.now in
-    let gs = c.args.gaps.now.slots in
-    let k = c.loop-k.k in
-    λ _. row_over w (made w gs) c.args.before.now c.loop-k.row k c.requires.tidy c.loop-k.invariant.0 (omega arith)
-    (λ j lt. c.loop-k.invariant.1 j lt ∙ ap (λ (o : Row). cond (ltb j k) (made w gs j) (get_or o.cells j 0)) c.requires.same)
+    λ _. row_over w (made w c.args.gaps.now.slots) c.args.row.now c.loop-k.row c.loop-k.k c.requires.tidy c.loop-k.invariant.0 (omega arith) c.loop-k.invariant.1
