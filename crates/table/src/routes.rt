@@ -7,7 +7,7 @@ use draft::Flow;
 use draft::limits::MOST_HOPS;
 use plan::Plan;
 
-// A flow and its number.
+// A flow and its number in the plan.
 #[derive(Clone, Copy)]
 pub struct Route<'a> {
     pub number: usize,

@@ -76,6 +76,7 @@ fn lay(table: &Table, scratch: &mut [u64])
     requires { 512 ≤ length scratch.old }
     ensures { scratch.new ≡ flat table.now ++ drop 512 scratch.old }
 {
+    // by the cell's number: of a slice written through a zip nothing is known afterwards
     for (f, row) in table.rows.iter().enumerate() {
         for (k, cell) in row.cells.iter().enumerate() {
             scratch[f * MOST_HOPS + k] = u64::from(*cell);
