@@ -1,7 +1,7 @@
 // The loads, delays and gaps of all ports, reckoned once.
 ghost use Rattle.std.specs.Prelude.{◌≡◌, ℕ, ◌+◌, ◌*◌, ◌<◌, ◌≤◌, slice_index};
 ghost use Rattle.plan.specs.Limits.{rates_through};
-ghost use Rattle.table.specs.Loads.{gaps};
+ghost use Rattle.table.specs.Loads.{backlog, delay, gaps};
 ghost use Rattle.table.specs.Reckons.{Loaded, Reckons};
 
 use crate::loads::{PortLoads, loads};
@@ -59,4 +59,21 @@ pub(crate) fn set_gaps(plan: &Plan, loads: &PortLoads, found: &mut PortTimes)
         let delay = loads.delay(plan, p);
         found.set(p, delay.saturating_sub(u64::from(port.stay)));
     }
+}
+
+// D of port p by a table, and 0 for what is no port.
+pub(crate) fn delay(plan: &Plan, table: &Table, p: usize) -> u64
+    ensures { result ≡ delay plan.now.parts table.now p }
+{
+    reckon(plan, table).delays.at(p)
+}
+
+// B + r × D of port p by a table, and 0 for what is no port.
+pub(crate) fn backlog(plan: &Plan, table: &Table, p: usize) -> u64
+    ensures { result ≡ backlog plan.now.parts table.now p }
+{
+    if p >= plan.parts.size.ports {
+        return 0;
+    }
+    reckon(plan, table).backlog(plan, p, plan.rates_through(p))
 }

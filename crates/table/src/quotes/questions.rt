@@ -4,7 +4,7 @@ ghost use Rattle.table.specs.Loads.{backlog, delay};
 ghost use Rattle.table.specs.Paths.{flow_delay};
 
 use super::Quote;
-use crate::reckons::reckon;
+use crate::reckons::{backlog, delay, reckon};
 use crate::routes::route_of;
 
 impl Quote {
@@ -12,18 +12,14 @@ impl Quote {
     pub fn port_delay(&self, p: usize) -> u64
         ensures value { result ≡ delay self.now.plan.parts self.now.table p }
     {
-        reckon(&self.plan, &self.table).delays.at(p)
+        delay(&self.plan, &self.table, p)
     }
 
     // B + r × D of a port, and 0 for what is no port.
     pub fn port_backlog(&self, p: usize) -> u64
         ensures value { result ≡ backlog self.now.plan.parts self.now.table p }
     {
-        if p >= self.plan.parts.size.ports {
-            return 0;
-        }
-        let rates = self.plan.rates_through(p);
-        reckon(&self.plan, &self.table).backlog(&self.plan, p, rates)
+        backlog(&self.plan, &self.table, p)
     }
 
     // The sum of D along a flow's path plus hops - 1, and 0 for what is no flow.

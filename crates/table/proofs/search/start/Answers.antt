@@ -1,7 +1,6 @@
-use Rattle.std.proofs.Common.{◌≡◌, ◌++◌, drop, length, refl, ap, arith}
+use Rattle.std.proofs.Common.{◌++◌, drop, refl, arith}
 use Rattle.std.proofs.lemmas.List.{get_or-replicate, length-append, length-drop}
 use Rattle.draft.specs.Plans.{flow_at, no_row}
-use Rattle.draft.specs.declared.table.Proposal.{Proposal}
 use Rattle.table.specs.Rounds.{start_row, zero_row}
 use Rattle.table.proofs.Places.{front_filled}
 use Rattle.table.proofs.Tables.{table_all}

@@ -1,4 +1,4 @@
-use Rattle.std.proofs.Common.{ℕ, ◌+◌, ◌-◌, cond, ltb, List, refl, ap, ◌∙◌, arith}
+use Rattle.std.proofs.Common.{ℕ, ◌+◌, ◌-◌, cond, ltb, List, ap, ◌∙◌, arith}
 use Rattle.draft.specs.Plans.{flow_at, hops}
 use Rattle.plan.proofs.Sums.{zeros}
 use Rattle.table.specs.Paths.{delay_along}
