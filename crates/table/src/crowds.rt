@@ -19,6 +19,7 @@ fn lines(plan: &Plan, figures: &Reckoned) -> Result<(), TableFault>
     let rates = plan.rates();
     let ports = &plan.parts.ports[..plan.parts.size.ports];
     for (p, port) in ports.iter().enumerate() {
+        // by the port's number: the backlog goes by it too
         let held = figures.backlog(plan, p, rates[p]);
         if held / u64::from(port.shortest) > MOST_WAITING {
             return Err(TableFault::Crowded(p));

@@ -31,7 +31,7 @@ impl Route<'_> {
     {
         let before = row.cells;
         let mut need = u64::from(self.flow.burst);
-        // by the hop: the cell is written, and the place, the port and the next need go by the hop too
+        // by the hop, since place, port and next need go by it, and the cells are written
         for k in 0..self.hops() {
             if need > u64::from(MOST_CELL) {
                 return Err(TableFault::Climbs(self.place(k)));
@@ -68,7 +68,7 @@ fn make_rows(
 
 // Each cell becomes its need, by the gaps of the table before, which is passed by value; the made one is changed in place.
 // Tells whether nothing changed, or the first need that passes the limit, and then the table before is put back.
-// The sums become the loads of the table made.
+// The sums become the loads of the table made. A truth value, since its one caller asks it by an if.
 pub(crate) fn round(
     plan: &Plan,
     table: Table,
