@@ -2,7 +2,7 @@
 ghost use Rattle.std.specs.Prelude.{◌≡◌, ◌<◌, slice_index};
 ghost use Rattle.refusal.specs.Firsts.{and_then};
 ghost use Rattle.table.specs.Accepts.{Judged};
-ghost use Rattle.table.specs.Checks.{cell_fits, cells_answer, cells_in, crowds_answer, lows_answer, lows_by, table_answer};
+ghost use Rattle.table.specs.Checks.{cell_within, cells_answer, cells_in, crowds_answer, lows_answer, lows_by, table_answer};
 ghost use Rattle.table.specs.Quotes.{Exactly, quote_answer, told};
 
 use crate::crowds::crowds_by;
@@ -11,20 +11,19 @@ use crate::quotes::Quote;
 use crate::reckons::reckon;
 use crate::routes::{Route, route_of};
 use crate::times::PortTimes;
-use draft::limits::{MOST_CELL, MOST_HOPS};
+use draft::limits::MOST_CELL;
 use draft::{Proposal, Row, Table};
 use plan::Plan;
 
 impl Route<'_> {
     // Whether its cell at hop k is within the limit where it is used, and else 0.
-    fn cell_fits(&self, row: &Row, k: usize) -> bool
-        requires { k < 8 }
-        ensures { result ≡ cell_fits self.now.flow.now row.now k }
+    fn cell_fits(&self, k: usize, cell: u32) -> bool
+        ensures { result ≡ cell_within self.now.flow.now k cell }
     {
         if k < self.hops() {
-            row.cells[k] <= MOST_CELL
+            cell <= MOST_CELL
         } else {
-            row.cells[k] == 0
+            cell == 0
         }
     }
 
@@ -32,8 +31,8 @@ impl Route<'_> {
     fn cells_in(&self, row: &Row) -> Result<(), TableFault>
         ensures { result ≡ cells_in self.now.number self.now.flow.now row.now }
     {
-        for k in 0..MOST_HOPS {
-            if !self.cell_fits(row, k) {
+        for (k, cell) in row.cells.iter().enumerate() {
+            if !self.cell_fits(k, *cell) {
                 return Err(TableFault::Cell(self.place(k)));
             }
         }
