@@ -1,3 +1,2 @@
-pub mod Pairs
 pub mod Pastes
 pub mod Widths

@@ -1,6 +1,7 @@
 // The sheet of a plan file: the quote's lines, or the line that says no.
-ghost use Rattle.std.specs.Prelude.{◌≡◌, ◌≤◌, length, IfOk, Ok, Err, MatchResult};
+ghost use Rattle.std.specs.Prelude.{◌≡◌, ◌<◌, ◌≤◌, [], ◌∷◌, length, IfOk, Ok, Err, MatchResult, codes};
 ghost use Rattle.table.specs.Quotes.{least_answer, told};
+ghost use Rattle.printing.specs.Lines.{line};
 ghost use Rattle.printing.specs.Prints.{Printed};
 ghost use Rattle.printing.specs.Sheets.{draft_quote, no_line, place_after, print_answer, quote_sheet, quoted, sheet_quote};
 
@@ -52,6 +53,15 @@ fn no_line(out: &mut Queue<u8>, refusal: Refusal)
     line(out, b"NO", &[layer, number, refusal.place]);
 }
 
+// A port's line; as parameters its figures are known to be 64-bit numbers, and so how long they are printed.
+fn port_line(out: &mut Queue<u8>, p: usize, delay: u64, backlog: u64)
+    requires { p < 32 }
+    ensures after { Printed out.old (line (codes "PORT") (p ∷ delay ∷ backlog ∷ [])) out.new }
+    ensures short { length (line (codes "PORT") (p ∷ delay ∷ backlog ∷ [])) ≤ 50 }
+{
+    line(out, b"PORT", &[p as u64, delay, backlog]);
+}
+
 // The sheet of a quote.
 fn lines(out: &mut Queue<u8>, quote: &Quote)
     ensures after { Printed out.old (quote_sheet (quoted quote.now)) out.new }
@@ -68,9 +78,8 @@ fn lines(out: &mut Queue<u8>, quote: &Quote)
             u64::from(quote.rounds),
         ],
     );
-    let ports = figures.delays[..size.ports].iter().zip(&figures.backlogs);
-    for (p, (delay, backlog)) in ports.enumerate() {
-        line(out, b"PORT", &[p as u64, *delay, *backlog]);
+    for (p, port) in figures.ports[..size.ports].iter().enumerate() {
+        port_line(out, p, port.delay, port.backlog);
     }
     for (f, delay) in figures.flows[..size.flows].iter().enumerate() {
         line(out, b"FLOW", &[f as u64, *delay]);

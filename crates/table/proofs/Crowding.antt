@@ -1,7 +1,7 @@
 -- Crowded ports and regulators, by figures reckoned before.
-use Rattle.std.proofs.Common.{◌≡◌, ℕ, ◌+◌, ◌*◌, ◌/◌, ◌%◌, ◌^◌, ◌<◌, ◌≤◌, true, false, cond, eqb, ltb, leb, List, get_or, Ok, Result, sym, refl, ap, ◌∙◌, arith}
+use Rattle.std.proofs.Common.{◌≡◌, ℕ, ◌+◌, ◌*◌, ◌/◌, ◌%◌, ◌^◌, ◌<◌, ◌≤◌, true, false, cond, eqb, leb, List, get_or, Ok, Result, sym, refl, ap, ◌∙◌, arith}
 use native.Mathlib.Nat.{zero-div}
-use Rattle.std.proofs.lemmas.Bool.{cond_both, cond-false, cond-true, lt-ltb}
+use Rattle.std.proofs.lemmas.Bool.{cond_both, cond-false}
 use Rattle.refusal.proofs.Orders.{first_refusal_from}
 use Rattle.refusal.specs.Firsts.{and_then}
 use Rattle.draft.specs.Masks.{bit, regulated}
@@ -10,15 +10,15 @@ use Rattle.draft.specs.declared.flow.Flow.{Flow}
 use Rattle.draft.specs.declared.parts.Parts.{Parts}
 use Rattle.draft.specs.declared.table.Table.{Table}
 use Rattle.plan.specs.Limits.{rates_through}
-use Rattle.table.specs.Checks.{crowds_answer, line_fits, lines_answer, lines_by, regulator_fits, regulators_answer, regulators_by, regulators_in, unless}
-use Rattle.table.specs.Loads.{backlog, delay, delays, load}
+use Rattle.table.specs.Checks.{crowds_answer, line_fits, lines_answer, lines_by, regulator_fits, regulators_by, regulators_in, unless}
+use Rattle.table.specs.Loads.{backlog, delays}
 use Rattle.table.specs.Paths.{stretch_by}
 use Rattle.table.specs.Reckons.{Loaded, Reckons}
 use Rattle.table.specs.declared.fault.TableFault.{TableFault}
 use Rattle.table.specs.declared.fault.TableFault.TheVariants.{Crowded}
-use Rattle.table.specs.declared.loads.Reckoned.{Reckoned}
+use Rattle.table.specs.declared.reckons.Reckoned.{Reckoned}
 use Rattle.table.proofs.Exact.{passes}
-use Rattle.table.proofs.Rows.{delays_at}
+use Rattle.table.proofs.Rows.{backlog_at}
 use Rattle.table.proofs.Turns.{same_refusal}
 
 unregulated : (w : Flow) → w.mask.bits ≡ 0 → (k : ℕ) → regulated w.mask k ≡ false
@@ -37,14 +37,10 @@ module _ (P : Parts) (few : P.size.ports ≤ 32) (t : Table) where
   lines_from bs ds l q =
       same_refusal (λ p. unless (line_fits (port_at P p) (get_or bs p 0 + rates_through P p * get_or ds p 0)) (Crowded p)) (λ p. unless (line_fits (port_at P p) (backlog P t p)) (Crowded p)) P.size.ports (λ p lp.
       let within : p < 32 = omega arith in
-      let e : get_or bs p 0 + rates_through P p * get_or ds p 0 ≡ backlog P t p =
-      ap (λ (b : ℕ). b + rates_through P p * get_or ds p 0) (l p within)
-      ∙ ap (λ (d : ℕ). load P t p + rates_through P p * d) (ap (λ (ds : List ℕ). get_or ds p 0) q ∙ delays_at P t p within)
-      ∙ sym (cond-true (ltb p P.size.ports) (load P t p + rates_through P p * delay P t p) 0 (lt-ltb p P.size.ports lp)) in
-      ap (λ (b : ℕ). unless (line_fits (port_at P p) b) (Crowded p)) e)
+      ap (λ (b : ℕ). unless (line_fits (port_at P p) b) (Crowded p)) (backlog_at P t bs ds l q p within lp))
 
   -- what is crowded by the figures of a table is crowded by the table
-  pub crowds_from : (r : Reckoned) → Reckons P t r → and_then (lines_by P r.loads r.delays) (regulators_by P r.delays) ≡ crowds_answer P t
+  pub crowds_from : (r : Reckoned) → Reckons P t r → and_then (lines_by P r.loads.bits r.delays.slots) (regulators_by P r.delays.slots) ≡ crowds_answer P t
   crowds_from r k =
-      ap (λ (a : Result (Unit {0}) TableFault). and_then a (regulators_by P r.delays)) (lines_from r.loads r.delays k.loads k.delays)
+      ap (λ (a : Result (Unit {0}) TableFault). and_then a (regulators_by P r.delays.slots)) (lines_from r.loads.bits r.delays.slots k.loads k.delays)
       ∙ ap (λ (ds : List ℕ). and_then (lines_answer P t) (regulators_by P ds)) k.delays

@@ -1,16 +1,11 @@
 -- What a plan's ports and flows keep, as far as a table needs it.
 use Rattle.std.proofs.Common.{◌≡◌, ℕ, ◌<◌, ◌≤◌, true, arith}
-use Rattle.draft.specs.Plans.{flow_at, port_at}
+use Rattle.draft.specs.Plans.{flow_at}
 use Rattle.draft.specs.declared.parts.Parts.{Parts}
 use Rattle.plan.proofs.Keeps.{kept_of}
 use Rattle.plan.specs.Checks.{faultless}
 use Rattle.plan.specs.Limits.{rates_through}
-use Rattle.table.specs.Bounds.{Routed, Serves}
-
-pub serves_of : (P : Parts) → faultless P ≡ true → (p : ℕ) → p < P.size.ports → Serves (port_at P p)
-serves_of P e p h =
-    let k = (kept_of P e).ports p h in
-    record { rate_least = k.rate_least; rate_most = k.rate_most; latency_most = k.latency_most; shortest_least = k.shortest_least }
+use Rattle.table.specs.Bounds.{Routed}
 
 pub routed_of : (P : Parts) → faultless P ≡ true → (f : ℕ) → f < P.size.flows → Routed (flow_at P f)
 routed_of P e f h =

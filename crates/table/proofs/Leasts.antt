@@ -1,5 +1,5 @@
 -- Why the table that a round leaves unchanged is the least, and why there is none where a need climbs past the limit.
-use Rattle.std.proofs.Common.{◌≡◌, ℕ, zero, suc, ◌+◌, ◌-◌, ◌*◌, ◌<◌, ◌≤◌, true, false, cond, eqb, leb, List, get_or, is_ok, Ok, Err, Result, sym, refl, ap, ◌∙◌, subst, le_trans, mul-le-mul_left, add-one, arith}
+use Rattle.std.proofs.Common.{◌≡◌, ℕ, zero, suc, ◌+◌, ◌-◌, ◌*◌, ◌<◌, ◌≤◌, true, false, cond, eqb, leb, List, get_or, is_ok, Ok, Err, sym, refl, ap, ◌∙◌, subst, le_trans, mul-le-mul_left, add-one, arith}
 use native.Mathlib.Decide.{ℕ_discrete}
 use Rattle.std.proofs.lemmas.Bool.{both_ways, eq-eqb, eqb-true, le-leb, le-ltb, leb-true, lt-ltb}
 use Rattle.refusal.proofs.Orders.{all_below_each, all_below_from, first_refusal_each, first_refusal_from}
@@ -8,18 +8,18 @@ use Rattle.draft.specs.Masks.{regulated}
 use Rattle.draft.specs.Plans.{cell, flow_at, hop_port, hops, port_at, row_at}
 use Rattle.draft.specs.declared.parts.Parts.{Parts}
 use Rattle.draft.specs.declared.table.Table.{Table}
+use Rattle.plan.proofs.Keeps.{kept_of}
 use Rattle.plan.specs.Checks.{faultless}
 use Rattle.table.specs.Accepts.{Accepted, Below, Cells, Hopeless}
 use Rattle.table.specs.Checks.{accepts, cells_answer, crowds_answer, lows_answer, table_answer, unless}
-use Rattle.table.specs.Leasts.{Excluded, Settled, Shown, Sought, after}
+use Rattle.table.specs.Leasts.{Excluded, LeastFound, Settled, Sought, after}
 use Rattle.table.specs.Loads.{gaps}
 use Rattle.table.specs.Paths.{need}
-use Rattle.table.specs.Rounds.{climb, climb_in, find, gives, least_from, made, made_by, made_row, row_by, same_row, settle, start, still_by, table_by}
+use Rattle.table.specs.Rounds.{Found, climb, climb_in, find, gives, least_from, made, made_by, made_row, row_by, rounds_told, same_row, settle, start, still_by, table_by}
 use Rattle.table.specs.declared.fault.TableFault.{TableFault}
 use Rattle.table.specs.declared.fault.TableFault.TheVariants.{Cell, Climbs, Crowded, Low, Rounds, Rows, Scratch}
-use Rattle.table.specs.declared.search.Found.{Found}
 use Rattle.table.proofs.Exact.{accepted_of, cells_of, crowds_of, lows_of, passed, passes, thens}
-use Rattle.table.proofs.Figures.{flows_few, routed_of, serves_of}
+use Rattle.table.proofs.Figures.{flows_few, routed_of}
 use Rattle.table.proofs.Rises.{frames_rise, gaps_rise, held_rises}
 use Rattle.table.proofs.Tables.{cell_of_row, row_of_table, row_same, table_same}
 
@@ -131,7 +131,7 @@ module _ (P : Parts) (K : faultless P ≡ true) where
   excluded h Scratch = tt
 
   abbrev FoundShows : Found → Type 0
-  FoundShows r = Sought P r.table r.rounds r.answer
+  FoundShows r = Sought P r.table (rounds_told r)
 
   settled : (d : ℕ) → ((t : Table) → Accepted P t → Below P (after P d) t) → ((m : ℕ) → m < d → after P (suc m) ≡ after P m → ⊥) → climb P (gaps P (after P d)) ≡ Ok tt
       → still_by P (gaps P (after P d)) (after P d) P.size.flows ≡ true → Settled P (after P (suc d)) (d + 1)
@@ -178,14 +178,15 @@ module _ (P : Parts) (K : faultless P ≡ true) where
   crowds_free : (u t : Table) → Accepted P t → Below P u t → crowds_answer P u ≡ Ok tt
   crowds_free u t a h =
       crowds_of P K u
-      (λ p lp. le_trans (frames_rise P u t h p (port_at P p).shortest (omega (arith, (serves_of P K p lp).shortest_least))) (a.lines p lp))
+      (λ p lp. le_trans (frames_rise P u t h p (port_at P p).shortest (omega (arith, ((kept_of P K).ports p lp).shortest_least))) (a.lines p lp))
       (λ f lf k lk on. le_trans (held_rises P u t h (flow_at P f) (routed_of P K f lf) k (omega arith)) (a.regulators f lf k lk on))
 
-  pub shown : (t : Table) (n : ℕ) (a r : Result (Unit {0}) TableFault) → Sought P t n a → r ≡ and_then a (crowds_answer P t) → Shown P t n r × (is_ok r ≡ true → accepts P t ≡ true)
-  shown t n (Err e) (Ok v) s q = absurd (let z : ◌≡◌ {A = ℕ} 0 1 = cc in omega arith)
-  shown t n (Err e) (Err x) s q = let z : e ≡ x = cc in (subst (Excluded P) z s, λ h. absurd (let y : ◌≡◌ {A = ℕ} 0 1 = cc in omega arith))
-  shown t n (Ok u) (Err x) s q =
-      (excluded (λ o a. let z = crowds_free t o a (s.below o a) in absurd (let y : ◌≡◌ {A = ℕ} 0 1 = cc in omega arith)) x, λ h. absurd (let y : ◌≡◌ {A = ℕ} 0 1 = cc in omega arith))
-  shown t n (Ok u) (Ok v) s q =
+  -- a settled table that is crowded shows that there is no least one
+  pub settled_crowded : (t : Table) (n : ℕ) (x : TableFault) → Settled P t n → Err x ≡ crowds_answer P t → Excluded P x
+  settled_crowded t n x s q = excluded (λ o a. let z = crowds_free t o a (s.below o a) in absurd (let y : ◌≡◌ {A = ℕ} 0 1 = cc in omega arith)) x
+
+  -- and one that is not is the least
+  pub settled_least : (t : Table) (n : ℕ) → Settled P t n → Ok tt ≡ crowds_answer P t → LeastFound P t n × (accepts P t ≡ true)
+  settled_least t n s q =
       let free : table_answer P t ≡ Ok tt = thens (cells_answer P t) (and_then (lows_answer P t) (crowds_answer P t)) (cells_of P K t s.within s.unused) (thens (lows_answer P t) (crowds_answer P t) (lows_of P K t s.reached) (sym q)) in
-      (record { least = record { accepted = accepted_of P K t free; below = s.below }; made = s.made; rounds = s.rounds }, λ _. ap is_ok free)
+      (record { least = record { accepted = accepted_of P K t free; below = s.below }; made = s.made; rounds = s.rounds }, ap is_ok free)

@@ -1,14 +1,18 @@
 -- Tables and answers made row by row.
-use Rattle.std.proofs.Common.{◌≡◌, ℕ, ◌<◌, ◌≤◌, cond, ltb, List, length, get_or, Ok, Err, Result, refl, ap, ◌∙◌, ⊎_elim, arith}
+use Rattle.std.proofs.Common.{◌≡◌, ℕ, ◌<◌, ◌≤◌, cond, eqb, ltb, Decides, sym, List, ◌++◌, length, get_or, take, drop, replicate, Ok, Err, Result, refl, ap, ◌∙◌, ⊎_elim, arith}
 use Rattle.std.proofs.lemmas.List.FromFn.{fill_by_all, get_or-map-range_with_len, length-map-range_with_len}
-use Rattle.std.proofs.lemmas.Bool.{cases_lt, cond-false, cond-true, le-ltb, lt-ltb}
+use Rattle.std.proofs.lemmas.List.{ext_get_or, get_or-replicate, length-append, length-drop, length-replicate, length-take}
+use Rattle.std.proofs.lemmas.Bool.{cases_lt, cond-false, cond-true, eq-eqb, eqb-true, le-ltb, lt-ltb}
+use Rattle.refusal.proofs.Orders.{all_below_each, all_below_from}
 use Rattle.draft.specs.Plans.{flow_at, hops, no_row, row_at}
 use Rattle.draft.specs.declared.flow.Flow.{Flow}
 use Rattle.draft.specs.declared.parts.Parts.{Parts}
 use Rattle.draft.specs.declared.table.Row.{Row}
 use Rattle.draft.specs.declared.table.Table.{Table}
-use Rattle.table.specs.Rounds.{Shaped, Tidy, gives, row_by, table_by, zero_row}
+use Rattle.plan.proofs.Sums.{zeros}
+use Rattle.table.specs.Rounds.{Shaped, Tidy, gives, made, row_by, same_row, table_by, zero_row}
 use Rattle.table.specs.declared.fault.TableFault.{TableFault}
+use Rattle.table.proofs.Places.{front_filled}
 
 -- a table whose rows below n are as g says, and the others 0
 pub table_all : (P : Parts) (g : ℕ → Row) (t : Table) (n : ℕ) → length t.rows ≡ 64 → n ≡ P.size.flows
@@ -106,3 +110,31 @@ shaped_by P g few =
           );
       rest = λ f lf l. row_of_table P rows f l ∙ cond-false (ltb f P.size.flows) (rows f) zero_row (le-ltb f P.size.flows lf);
     }
+
+-- a row of zeros of which the first n cells were filled
+pub row_filled : (w : Flow) (b n : ℕ) (front : List ℕ) → n ≡ hops w → hops w ≤ 8 → front ≡ replicate (length (take n zero_row.cells)) b
+    → record { cells = front ++ drop n zero_row.cells } ≡ row_by w (λ _. b)
+row_filled w b n front e few q =
+    let zs = zero_row.cells in
+    let m : length (take n zs) ≡ n = omega (arith, length-take n zs) in
+    let long : length front ≡ n = ap length q ∙ length-replicate (length (take n zs)) b ∙ m in
+    row_all w (λ _. b) (record { cells = front ++ drop n zs }) n (omega (arith, length-append front (drop n zs), length-drop n zs)) e
+    (front_filled (λ _. b) (λ _. 0) 0 front zs n 8 long (λ k l. rw q (get_or-replicate (length (take n zs)) k b 0 (omega arith))) (λ k _. zeros 8 k))
+
+-- the cells of a row made over another are the same exactly where a round says so
+pub same_cells : (w : Flow) (gs : List ℕ) (o r : Row) (n : ℕ) → hops w ≤ 8 → length o.cells ≡ 8 → length r.cells ≡ 8 → n ≡ hops w
+    → ((k : ℕ) → k < 8 → get_or r.cells k 0 ≡ cond (ltb k n) (made w gs k) (get_or o.cells k 0)) → Decides (same_row w gs o (hops w)) (r.cells ≡ o.cells)
+same_cells w gs o r n few lo lr e h = (
+  λ s. ext_get_or 0 r.cells o.cells (omega arith) (λ k lt.
+      let l8 : k < 8 = omega arith in
+      h k l8 ∙ ⊎_elim
+      (λ l.
+      let same = eqb-true (made w gs k) (get_or o.cells k 0) (all_below_each (λ k. eqb (made w gs k) (get_or o.cells k 0)) (hops w) s k (omega arith)) in
+      cond-true (ltb k n) (made w gs k) (get_or o.cells k 0) (lt-ltb k n l) ∙ same)
+      (λ l. cond-false (ltb k n) (made w gs k) (get_or o.cells k 0) (le-ltb k n l))
+      (cases_lt k n)),
+  λ q. all_below_from (λ k. eqb (made w gs k) (get_or o.cells k 0)) (hops w) (λ k l.
+      let l8 : k < 8 = omega arith in
+      eq-eqb (made w gs k) (get_or o.cells k 0)
+      (sym (cond-true (ltb k n) (made w gs k) (get_or o.cells k 0) (lt-ltb k n (omega arith))) ∙ sym (h k l8) ∙ ap (λ (cs : List ℕ). get_or cs k 0) q)),
+)

@@ -1,8 +1,7 @@
 -- What keeps the sums and products over a plan's flows and delays in their widths.
-use Rattle.std.specs.Prelude.{ℕ, ◌+◌, ◌*◌, ◌<◌, ◌≤◌, List, slice_index}
+use Rattle.std.specs.Prelude.{ℕ, ◌+◌, ◌*◌, ◌<◌, ◌≤◌}
 use Rattle.draft.specs.Plans.{hop_port, hops}
 use Rattle.draft.specs.declared.flow.Flow.{Flow}
-use Rattle.draft.specs.declared.port.Port.{Port}
 
 -- eight cells of 32 bits, and 64 rows of them
 abbrev pub most_row : ℕ
@@ -19,13 +18,6 @@ most_delay = 100000 + most_load
 abbrev pub most_stretch : ℕ
 most_stretch = 8 * (most_delay + 1)
 
--- a port's figures, as far as its delay goes
-pub record Serves (q : Port) : Type 0 where
-  pub rate_least : 1 ≤ q.rate
-  pub rate_most : q.rate ≤ 10000
-  pub latency_most : q.latency ≤ 100000
-  pub shortest_least : 512 ≤ q.shortest
-
 -- a flow's figures, as far as its cells go
 pub record Routed (w : Flow) : Type 0 where
   pub rate_most : w.rate ≤ 10000
@@ -34,7 +26,3 @@ pub record Routed (w : Flow) : Type 0 where
   pub hops_least : 1 ≤ hops w
   pub hops_most : hops w ≤ 8
   pub crossed : (k : ℕ) → k < hops w → hop_port w k < 32
-
--- delays of ports, none longer than the fullest table makes it
-abbrev pub Few : List ℕ → Type 0
-Few ds = (p : ℕ) → p < 32 → slice_index ds p ≤ most_delay

@@ -18,9 +18,13 @@ use Rattle.table.specs.declared.fault.TableFault.TheVariants.{Cell, Crowded, Low
 abbrev pub unless : Bool → TableFault → Result (Unit {0}) TableFault
 unless b e = cond b (Ok tt) (Err e)
 
--- a used cell is within the limit, an unused one is 0
+-- at hop k a used cell is within the limit, an unused one is 0
+abbrev pub cell_within : Flow → ℕ → ℕ → Bool
+cell_within w k cell = cond (nat_lt k (hops w)) (nat_le cell 1000000000) (cell == 0)
+
+-- so is the cell of a row
 abbrev pub cell_fits : Flow → Row → ℕ → Bool
-cell_fits w r k = cond (nat_lt k (hops w)) (nat_le (slice_index r.cells k) 1000000000) (slice_index r.cells k == 0)
+cell_fits w r k = cell_within w k (slice_index r.cells k)
 
 abbrev pub cells_in : ℕ → Flow → Row → Result (Unit {0}) TableFault
 cells_in f w r = first_refusal (λ k. unless (cell_fits w r k) (Cell (f * 8 + k))) 8

@@ -47,11 +47,11 @@ pub record Settled (P : Parts) (t : Table) (n : ℕ) : Type 0 where
   pub rounds : FirstStill P n
 
 -- what the rounds show, by their answer
-abbrev pub Sought : Parts → Table → ℕ → Result (Unit {0}) TableFault → Type 0
-Sought P t n (Ok u) = Settled P t n
-Sought P t n (Err e) = Excluded P e
+abbrev pub Sought : Parts → Table → Result ℕ TableFault → Type 0
+Sought P t (Ok n) = Settled P t n
+Sought P t (Err e) = Excluded P e
 
 -- what the rounds and the limits of lines and regulators show
-abbrev pub Shown : Parts → Table → ℕ → Result (Unit {0}) TableFault → Type 0
-Shown P t n (Ok u) = LeastFound P t n
-Shown P t n (Err e) = Excluded P e
+abbrev pub Shown : Parts → Table → Result ℕ TableFault → Type 0
+Shown P t (Ok n) = LeastFound P t n
+Shown P t (Err e) = Excluded P e

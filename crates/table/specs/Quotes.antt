@@ -9,11 +9,10 @@ use Rattle.draft.specs.declared.table.Table.{Table}
 use Rattle.table.specs.Accepts.{Accepted}
 use Rattle.table.specs.Checks.{crowds_answer, table_answer}
 use Rattle.table.specs.Leasts.{Excluded, LeastFound}
-use Rattle.table.specs.Rounds.{find, gives}
+use Rattle.table.specs.Rounds.{Found, find, gives}
 use Rattle.table.specs.declared.fault.TableFault.{TableFault}
 use Rattle.table.specs.declared.fault.TableFault.TheVariants.{Rounds, Rows, Scratch}
 use Rattle.table.specs.declared.quotes.Quote.{Quote}
-use Rattle.table.specs.declared.search.Found.{Found}
 
 -- a quote's plan, table and rounds
 pub record Quoted : Type 0 where
@@ -37,6 +36,10 @@ quote_answer P x =
 abbrev pub Exactly : Parts → Proposal → Result Quote TableFault → Type 0
 Exactly P x (Ok q) = (x.rows ≡ P.size.flows) × Accepted P x.table
 Exactly P x (Err e) = x.rows ≡ P.size.flows → Accepted P x.table → ⊥
+
+-- how many rounds made the least table, unless it is crowded
+abbrev pub rounds_answer : Parts → Found → Result ℕ TableFault
+rounds_answer P u = gives (and_then u.answer (crowds_answer P u.table)) u.rounds
 
 -- what was found, unless it is crowded
 abbrev pub found_answer : Parts → Found → Result Quoted TableFault

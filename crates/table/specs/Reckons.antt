@@ -1,16 +1,9 @@
 -- What is reckoned of the ports once, before a table is checked.
-use Rattle.std.specs.Prelude.{◌≡◌, ℕ, ◌<◌, ◌≤◌, List, slice_index}
+use Rattle.std.specs.Prelude.{◌≡◌, ℕ, ◌<◌, List, slice_index}
 use Rattle.draft.specs.declared.parts.Parts.{Parts}
 use Rattle.draft.specs.declared.table.Table.{Table}
-use Rattle.table.specs.Bounds.{Few, most_load}
 use Rattle.table.specs.Loads.{delays, gaps, load}
-use Rattle.table.specs.declared.loads.Reckoned.{Reckoned}
-
--- loads and delays keep their bounds
-pub record Bounded (r : Reckoned) : Type 0 where
-  pub loads : (p : ℕ) → p < 32 → slice_index r.loads p ≤ most_load
-  pub delays : Few r.delays
-  pub gaps : Few r.gaps
+use Rattle.table.specs.declared.reckons.Reckoned.{Reckoned}
 
 -- these are the loads of the ports
 abbrev pub Loaded : Parts → Table → List ℕ → Type 0
@@ -18,6 +11,6 @@ Loaded P t bs = (p : ℕ) → p < 32 → slice_index bs p ≡ load P t p
 
 -- they are the loads, delays and gaps that the table makes
 pub record Reckons (P : Parts) (t : Table) (r : Reckoned) : Type 0 where
-  pub loads : Loaded P t r.loads
-  pub delays : r.delays ≡ delays P t
-  pub gaps : r.gaps ≡ gaps P t
+  pub loads : Loaded P t r.loads.bits
+  pub delays : r.delays.slots ≡ delays P t
+  pub gaps : r.gaps.slots ≡ gaps P t

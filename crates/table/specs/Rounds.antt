@@ -12,7 +12,12 @@ use Rattle.table.specs.Loads.{gaps}
 use Rattle.table.specs.Paths.{need_after}
 use Rattle.table.specs.declared.fault.TableFault.{TableFault}
 use Rattle.table.specs.declared.fault.TableFault.TheVariants.{Climbs, Rounds}
-use Rattle.table.specs.declared.search.Found.{Found}
+
+-- where the rounds end: the last table made, how many they were, and why it is not the least
+pub record Found : Type 0 where
+  pub table : Table
+  pub rounds : ℕ
+  pub answer : Result (Unit {0}) TableFault
 
 -- what a round makes, and whether the table before was the same
 pub record Made : Type 0 where
@@ -99,3 +104,7 @@ least_from P (suc n) d t = settle (round P t) t d (least_from P n (d + 1))
 -- what the rounds find, n allowed
 abbrev pub find : Parts → ℕ → Found
 find P n = least_from P n 0 (start P)
+
+-- how many rounds there were, or why they ended
+abbrev pub rounds_told : Found → Result ℕ TableFault
+rounds_told u = gives u.answer u.rounds

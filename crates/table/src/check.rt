@@ -1,76 +1,73 @@
 // The check of a table: no fault exactly where it is accepted, else the first.
-ghost use Rattle.std.specs.Prelude.{◌≡◌, ◌<◌};
+ghost use Rattle.std.specs.Prelude.{◌≡◌, ◌<◌, slice_index};
 ghost use Rattle.refusal.specs.Firsts.{and_then};
 ghost use Rattle.table.specs.Accepts.{Judged};
-ghost use Rattle.table.specs.Bounds.{Few};
-ghost use Rattle.table.specs.Checks.{cell_fits, cells_answer, cells_in, crowds_answer, lows_answer, lows_by, table_answer};
+ghost use Rattle.table.specs.Checks.{cell_within, cells_answer, cells_in, crowds_answer, lows_answer, lows_by, table_answer};
 ghost use Rattle.table.specs.Quotes.{Exactly, quote_answer, told};
 
 use crate::crowds::crowds_by;
 use crate::fault::TableFault;
-use crate::loads::flow_of;
-use crate::paths::need_after;
 use crate::quotes::Quote;
 use crate::reckons::reckon;
-use draft::limits::{MOST_CELL, MOST_HOPS, MOST_PORTS};
-use draft::{Flow, Proposal, Row, Table};
+use crate::routes::{Route, route_of};
+use crate::times::PortTimes;
+use draft::limits::MOST_CELL;
+use draft::{Proposal, Row, Table};
 use plan::Plan;
 
-// Whether a used cell is within the limit, and an unused one 0.
-fn cell_fits(flow: &Flow, row: &Row, k: usize) -> bool
-    requires { k < 8 }
-    ensures { result ≡ cell_fits flow.now row.now k }
-{
-    if k < flow.path.hops as usize {
-        row.cells[k] <= MOST_CELL
-    } else {
-        row.cells[k] == 0
-    }
-}
-
-// The first cell of one flow that does not fit.
-fn cells_in(f: usize, flow: &Flow, row: &Row) -> Result<(), TableFault>
-    requires { f < 64 }
-    ensures { result ≡ cells_in f flow.now row.now }
-{
-    for k in 0..MOST_HOPS {
-        if !cell_fits(flow, row, k) {
-            return Err(TableFault::Cell(f * 8 + k));
+impl Route<'_> {
+    // Whether its cell at hop k is within the limit where it is used, and else 0.
+    fn cell_fits(&self, k: usize, cell: u32) -> bool
+        ensures { result ≡ cell_within self.now.flow.now k cell }
+    {
+        if k < self.hops() {
+            cell <= MOST_CELL
+        } else {
+            cell == 0
         }
     }
-    Ok(())
+
+    // The first of its cells that does not fit.
+    fn cells_in(&self, row: &Row) -> Result<(), TableFault>
+        ensures { result ≡ cells_in self.now.number self.now.flow.now row.now }
+    {
+        for (k, cell) in row.cells.iter().enumerate() {
+            if !self.cell_fits(k, *cell) {
+                return Err(TableFault::Cell(self.place(k)));
+            }
+        }
+        Ok(())
+    }
 }
 
 // The first cell that does not fit.
 fn cells(plan: &Plan, table: &Table) -> Result<(), TableFault>
     ensures { result ≡ cells_answer plan.now.parts table.now }
 {
-    for f in 0..plan.parts.size.flows {
-        match cells_in(f, flow_of(plan, f), &table.rows[f]) {
-            Err(fault) => return Err(fault),
-            Ok(_) => {}
-        }
+    let rows = &table.rows[..plan.parts.size.flows];
+    for (f, row) in rows.iter().enumerate() {
+        route_of(plan, f).cells_in(row)?;
     }
     Ok(())
 }
 
 // The first cell below its need, by the gaps of the ports.
-fn lows(plan: &Plan, table: &Table, gaps: &[u64; MOST_PORTS]) -> Result<(), TableFault>
-    requires { Few gaps.now }
-    ensures { result ≡ lows_by plan.now.parts gaps.now table.now }
+fn lows(plan: &Plan, table: &Table, gaps: &PortTimes) -> Result<(), TableFault>
+    ensures { result ≡ lows_by plan.now.parts gaps.now.slots table.now }
 {
     let mut answer = Ok(());
-    'search: for f in 0..plan.parts.size.flows {
-        let flow = flow_of(plan, f);
-        let row = &table.rows[f];
-        let mut need = flow.burst as u64;
-        for k in 0..flow.path.hops as usize {
-            let cell = row.cells[k] as u64;
+    let rows = &table.rows[..plan.parts.size.flows];
+    'search: for (f, row) in rows.iter().enumerate() {
+        let route = route_of(plan, f);
+        let mut need = u64::from(route.flow.burst);
+        let used = &row.cells[..route.hops()];
+        for (k, cell) in used.iter().enumerate() {
+            let cell = u64::from(*cell);
             if cell < need {
-                answer = Err(TableFault::Low(f * 8 + k));
+                answer = Err(TableFault::Low(route.place(k)));
                 break 'search;
             }
-            need = need_after(flow, gaps, cell, k);
+            need = route.need_after(gaps, cell, k);
         }
     }
     answer
@@ -81,10 +78,8 @@ fn needs(plan: &Plan, table: &Table) -> Result<(), TableFault>
     ensures { result ≡ and_then (lows_answer plan.now.parts table.now) (crowds_answer plan.now.parts table.now) }
 {
     let figures = reckon(plan, table);
-    match lows(plan, table, &figures.gaps) {
-        Err(low) => Err(low),
-        Ok(_) => crowds_by(plan, &figures),
-    }
+    lows(plan, table, &figures.gaps)?;
+    crowds_by(plan, &figures)
 }
 
 // The first fault of the table.
@@ -111,12 +106,10 @@ pub fn quote(plan: Plan, proposal: Proposal) -> Result<Quote, TableFault>
     if proposal.rows != plan.parts.size.flows {
         return Err(TableFault::Rows(proposal.rows));
     }
-    match check(&plan, proposal.table) {
-        Err(fault) => Err(fault),
-        Ok(_) => Ok(Quote {
-            plan,
-            table: proposal.table,
-            rounds: 0,
-        }),
-    }
+    check(&plan, proposal.table)?;
+    Ok(Quote {
+        plan,
+        table: proposal.table,
+        rounds: 0,
+    })
 }

@@ -3,14 +3,16 @@
 
 pub mod bench;
 pub mod check;
-pub mod crowds;
+mod crowds;
 pub mod fault;
-pub mod loads;
-pub mod paths;
+mod loads;
+mod paths;
 pub mod quotes;
-pub mod reckons;
-pub mod rounds;
+mod reckons;
+mod rounds;
+mod routes;
 pub mod search;
+mod times;
 
 pub use check::quote;
 pub use fault::TableFault;

@@ -1,74 +1,76 @@
-// Needs and delays of flows by the delays of ports.
-ghost use Rattle.std.specs.Prelude.{◌≡◌, ◌+◌, ◌*◌, ◌<◌, ◌≤◌, slice_index};
+// Needs, stretches and delays of routes by the times of ports.
+ghost use Rattle.std.specs.Prelude.{◌≡◌, ◌+◌, ◌-◌, ◌*◌, ◌<◌, ◌≤◌, slice_index};
 ghost use Rattle.draft.specs.Plans.{hop_port, hops};
-ghost use Rattle.table.specs.Bounds.{Few, Routed, most_delay, most_stretch};
+ghost use Rattle.table.specs.Bounds.{most_delay, most_stretch};
 ghost use Rattle.table.specs.Paths.{delay_along, need_after, stretch_after};
 
-use draft::Flow;
-use draft::limits::MOST_PORTS;
+use crate::routes::Route;
+use crate::times::PortTimes;
 
-// D - m, or D, of the port of hop k.
-fn at_hop(flow: &Flow, figures: &[u64; MOST_PORTS], k: usize) -> u64
-    requires kept { Routed flow.now }
-    requires few { Few figures.now }
-    requires hop { k < hops flow.now }
-    ensures value { result ≡ slice_index figures.now (hop_port flow.now k) }
-    ensures few { result ≤ most_delay }
-{
-    figures[flow.path.ports[k] as usize]
-}
-
-// What a flow adds to its burst over a gap.
-fn growth(flow: &Flow, gap: u64) -> u64
-    requires kept { Routed flow.now }
-    requires few { gap ≤ most_delay }
-    ensures value { result ≡ flow.now.rate * gap }
-    ensures few { result ≤ 10000 * most_delay }
-{
-    flow.rate as u64 * gap
-}
-
-// The need of hop k + 1, by the cell of hop k.
-pub(crate) fn need_after(flow: &Flow, gaps: &[u64; MOST_PORTS], before: u64, k: usize) -> u64
-    requires kept { Routed flow.now }
-    requires few { Few gaps.now }
-    requires before { before ≤ 4294967295 }
-    requires hop { k < hops flow.now }
-    ensures value { result ≡ need_after flow.now gaps.now before k }
-{
-    if flow.mask.has(k + 1) {
-        return flow.burst as u64;
-    }
-    before + growth(flow, at_hop(flow, gaps, k))
-}
-
-// The stretch up to hop k + 1, by the one up to hop k.
-pub(crate) fn stretch_after(flow: &Flow, delays: &[u64; MOST_PORTS], before: u64, k: usize) -> u64
-    requires kept { Routed flow.now }
-    requires few { Few delays.now }
-    requires before { before ≤ most_stretch }
-    requires hop { k < hops flow.now }
-    ensures value { result ≡ stretch_after flow.now delays.now before k }
-    ensures few { result ≤ before + (most_delay + 1) }
-{
-    let more = at_hop(flow, delays, k) + 1;
-    if flow.mask.has(k) {
-        more
-    } else {
-        before + more
+impl PortTimes {
+    // The time at the port of hop k.
+    fn at_hop(&self, route: &Route, k: usize) -> u64
+        requires { k < hops route.now.flow.now }
+        ensures value { result ≡ slice_index self.now.slots (hop_port route.now.flow.now k) }
+        ensures few { result ≤ most_delay }
+    {
+        self.slots[usize::from(route.flow.path.ports[k])]
     }
 }
 
-// D along the path, summed.
-pub(crate) fn delay_along(flow: &Flow, delays: &[u64; MOST_PORTS]) -> u64
-    requires kept { Routed flow.now }
-    requires few { Few delays.now }
-    ensures value { result ≡ delay_along flow.now delays.now (hops flow.now) }
-    ensures few { result ≤ 8 * most_delay }
-{
-    let mut sum = 0;
-    for k in 0..flow.path.hops as usize {
-        sum += at_hop(flow, delays, k);
+impl Route<'_> {
+    // What it adds to its burst over a gap.
+    fn growth(&self, gap: u64) -> u64
+        requires { gap ≤ most_delay }
+        ensures value { result ≡ self.now.flow.now.rate * gap }
+        ensures few { result ≤ 10000 * most_delay }
+    {
+        u64::from(self.flow.rate) * gap
     }
-    sum
+
+    // The need of hop k + 1, by the cell of hop k.
+    pub(crate) fn need_after(&self, gaps: &PortTimes, before: u64, k: usize) -> u64
+        requires before { before ≤ 4294967295 }
+        requires hop { k < hops self.now.flow.now }
+        ensures { result ≡ need_after self.now.flow.now gaps.now.slots before k }
+    {
+        if self.flow.mask.has(k + 1) {
+            return u64::from(self.flow.burst);
+        }
+        before + self.growth(gaps.at_hop(self, k))
+    }
+
+    // The stretch up to hop k + 1, by the one up to hop k.
+    pub(crate) fn stretch_after(&self, delays: &PortTimes, before: u64, k: usize) -> u64
+        requires before { before ≤ most_stretch }
+        requires hop { k < hops self.now.flow.now }
+        ensures value { result ≡ stretch_after self.now.flow.now delays.now.slots before k }
+        ensures few { result ≤ before + (most_delay + 1) }
+    {
+        let more = delays.at_hop(self, k) + 1;
+        if self.flow.mask.has(k) {
+            more
+        } else {
+            before + more
+        }
+    }
+
+    // D along the path, summed.
+    fn delay_along(&self, delays: &PortTimes) -> u64
+        ensures value { result ≡ delay_along self.now.flow.now delays.now.slots (hops self.now.flow.now) }
+        ensures few { result ≤ 8 * most_delay }
+    {
+        let mut sum = 0;
+        for k in 0..self.hops() {
+            sum += delays.at_hop(self, k);
+        }
+        sum
+    }
+
+    // D along the path and a slot between two hops, summed.
+    pub(crate) fn delay(&self, delays: &PortTimes) -> u64
+        ensures { result ≡ delay_along self.now.flow.now delays.now.slots (hops self.now.flow.now) + (hops self.now.flow.now - 1) }
+    {
+        self.delay_along(delays) + (self.hops() as u64 - 1)
+    }
 }

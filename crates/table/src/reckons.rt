@@ -1,27 +1,46 @@
 // The loads, delays and gaps of all ports, reckoned once.
-ghost use Rattle.std.specs.Prelude.{◌≡◌, ℕ, ◌<◌, ◌≤◌, slice_index};
-ghost use Rattle.table.specs.Bounds.{Few, most_load};
-ghost use Rattle.table.specs.Loads.{gaps};
-ghost use Rattle.table.specs.Reckons.{Bounded, Loaded, Reckons};
+ghost use Rattle.std.specs.Prelude.{◌≡◌, ℕ, ◌+◌, ◌*◌, ◌<◌, ◌≤◌, slice_index};
+ghost use Rattle.plan.specs.Limits.{rates_through};
+ghost use Rattle.table.specs.Loads.{backlog, delay, gaps};
+ghost use Rattle.table.specs.Reckons.{Loaded, Reckons};
 
-use crate::loads::{Reckoned, delay_by, loads, port_of};
+use crate::loads::{PortLoads, loads};
+use crate::times::PortTimes;
 use draft::Table;
-use draft::limits::MOST_PORTS;
 use plan::Plan;
+
+// What a table makes of each port: B, D, and D - m, which is 0 where m exceeds D.
+// A list of each, since needs go by the gaps alone and stretches by the delays alone.
+#[derive(Clone, Copy)]
+pub struct Reckoned {
+    pub loads: PortLoads,
+    pub delays: PortTimes,
+    pub gaps: PortTimes,
+}
+
+impl Reckoned {
+    // B + r × D of port p, by its r.
+    pub(crate) fn backlog(&self, plan: &Plan, p: usize, rates: u64) -> u64
+        requires port { p < plan.now.parts.size.ports }
+        requires rates { rates ≡ rates_through plan.now.parts p }
+        ensures { result ≡ slice_index self.now.loads.bits p + rates_through plan.now.parts p * slice_index self.now.delays.slots p }
+    {
+        self.loads.bits[p] + rates * self.delays.slots[p]
+    }
+}
 
 // B, D and D - m of each port; D and D - m are 0 past the plan's ports.
 pub(crate) fn reckon(plan: &Plan, table: &Table) -> Reckoned
-    ensures value { Reckons plan.now.parts table.now result }
-    ensures few { Bounded result }
+    ensures { Reckons plan.now.parts table.now result }
 {
     let loads = loads(plan, table);
-    let mut delays = [0; MOST_PORTS];
-    let mut gaps = [0; MOST_PORTS];
-    for p in 0..plan.parts.size.ports {
-        let port = port_of(plan, p);
-        let delay = delay_by(port, loads[p]);
-        delays[p] = delay;
-        gaps[p] = delay.saturating_sub(port.stay as u64);
+    let mut delays = PortTimes::none();
+    let mut gaps = PortTimes::none();
+    let ports = &plan.parts.ports[..plan.parts.size.ports];
+    for (p, port) in ports.iter().enumerate() {
+        let delay = loads.delay(plan, p);
+        delays.set(p, delay);
+        gaps.set(p, delay.saturating_sub(u64::from(port.stay)));
     }
     Reckoned {
         loads,
@@ -31,14 +50,30 @@ pub(crate) fn reckon(plan: &Plan, table: &Table) -> Reckoned
 }
 
 // D - m of each port by its B, written over the gaps of the table before.
-pub(crate) fn set_gaps(plan: &Plan, loads: &[u64; MOST_PORTS], found: &mut [u64; MOST_PORTS])
-    requires few { (p : ℕ) → p < 32 → slice_index loads.now p ≤ most_load }
-    requires rest { (p : ℕ) → plan.now.parts.size.ports ≤ p → p < 32 → slice_index found.old p ≡ 0 }
-    ensures value { (t : Table) → Loaded plan.now.parts t loads.now → found.new ≡ gaps plan.now.parts t }
-    ensures few { Few found.new }
+pub(crate) fn set_gaps(plan: &Plan, loads: &PortLoads, found: &mut PortTimes)
+    requires { (p : ℕ) → plan.now.parts.size.ports ≤ p → p < 32 → slice_index found.old.slots p ≡ 0 }
+    ensures { (t : Table) → Loaded plan.now.parts t loads.now.bits → found.new.slots ≡ gaps plan.now.parts t }
 {
-    for p in 0..plan.parts.size.ports {
-        let port = port_of(plan, p);
-        found[p] = delay_by(port, loads[p]).saturating_sub(port.stay as u64);
+    let ports = &plan.parts.ports[..plan.parts.size.ports];
+    for (p, port) in ports.iter().enumerate() {
+        let delay = loads.delay(plan, p);
+        found.set(p, delay.saturating_sub(u64::from(port.stay)));
     }
+}
+
+// D of port p by a table, and 0 for what is no port.
+pub(crate) fn delay(plan: &Plan, table: &Table, p: usize) -> u64
+    ensures { result ≡ delay plan.now.parts table.now p }
+{
+    reckon(plan, table).delays.at(p)
+}
+
+// B + r × D of port p by a table, and 0 for what is no port.
+pub(crate) fn backlog(plan: &Plan, table: &Table, p: usize) -> u64
+    ensures { result ≡ backlog plan.now.parts table.now p }
+{
+    if p >= plan.parts.size.ports {
+        return 0;
+    }
+    reckon(plan, table).backlog(plan, p, plan.rates_through(p))
 }

@@ -1,101 +1,74 @@
 // The search for the least table.
-ghost use Rattle.std.specs.Prelude.{◌≡◌, ◌≤◌, true, ◌++◌, length, drop, is_ok};
-ghost use Rattle.refusal.specs.Firsts.{and_then};
-ghost use Rattle.table.specs.Bounds.{Routed};
-ghost use Rattle.table.specs.Checks.{accepts, crowds_answer};
+ghost use Rattle.std.specs.Prelude.{◌≡◌, ◌≤◌, true, ◌++◌, length, drop, OnOk};
+ghost use Rattle.table.specs.Checks.{accepts};
 ghost use Rattle.table.specs.Leasts.{Shown, Sought};
-ghost use Rattle.table.specs.Quotes.{LeastOrNone, flat, least_answer, scratch_after, told};
-ghost use Rattle.table.specs.Rounds.{find, start, start_row};
+ghost use Rattle.table.specs.Quotes.{LeastOrNone, flat, least_answer, rounds_answer, scratch_after, told};
+ghost use Rattle.table.specs.Rounds.{find, rounds_told, start, start_row};
 
 use crate::crowds::crowds;
 use crate::fault::TableFault;
-use crate::loads::flow_of;
+use crate::loads::PortLoads;
 use crate::quotes::Quote;
 use crate::reckons::{reckon, set_gaps};
-use crate::rounds::{round, zeros};
-use draft::limits::{MOST_HOPS, MOST_PORTS, MOST_ROUNDS, TABLE_CELLS};
-use draft::{Flow, Row, Table};
+use crate::rounds::round;
+use crate::routes::{Route, route_of};
+use draft::limits::{MOST_HOPS, MOST_ROUNDS, TABLE_CELLS};
+use draft::{Proposal, Row, Table};
 use plan::Plan;
 
-// Where the rounds end: the last table made, how many they were, and why it is not the least.
-#[derive(Clone, Copy)]
-pub struct Found {
-    pub table: Table,
-    pub rounds: u32,
-    pub answer: Result<(), TableFault>,
-}
-
-// Each used cell of one flow at its burst.
-fn start_row(flow: &Flow) -> Row
-    requires { Routed flow.now }
-    ensures { result ≡ start_row flow.now }
-{
-    let mut cells = [0; MOST_HOPS];
-    for k in 0..flow.path.hops as usize {
-        cells[k] = flow.burst;
+impl Route<'_> {
+    // Each of its used cells at its burst.
+    fn start_row(&self) -> Row
+        ensures { result ≡ start_row self.now.flow.now }
+    {
+        let mut cells = [0; MOST_HOPS];
+        cells[..self.hops()].fill(self.flow.burst);
+        Row { cells }
     }
-    Row { cells }
 }
 
 // Each used cell at the flow's burst.
-pub(crate) fn start(plan: &Plan) -> Table
+fn start(plan: &Plan) -> Table
     ensures { result ≡ start plan.now.parts }
 {
-    let mut table = zeros();
-    for f in 0..plan.parts.size.flows {
-        table.rows[f] = start_row(flow_of(plan, f));
+    let mut rows = Proposal::none().table.rows;
+    let used = &mut rows[..plan.parts.size.flows];
+    for (f, row) in used.iter_mut().enumerate() {
+        *row = route_of(plan, f).start_row();
     }
-    table
+    Table { rows }
 }
 
-// The rounds, until one changes nothing.
-fn find(plan: &Plan, allowed: u32) -> Found
-    ensures value { result ≡ find plan.now.parts allowed }
-    ensures sought { Sought plan.now.parts result.table result.rounds result.answer }
+// The rounds, until one changes nothing: how many they are, and the last table made.
+fn find(plan: &Plan, allowed: u32, table: &mut Table) -> Result<u32, TableFault>
+    requires { table.old ≡ start plan.now.parts }
+    ensures table { table.new ≡ (find plan.now.parts allowed).table }
+    ensures answer { result ≡ rounds_told (find plan.now.parts allowed) }
+    ensures sought { Sought plan.now.parts table.new result }
 {
-    let mut table = start(plan);
-    let mut gaps = reckon(plan, &table).gaps;
+    let mut gaps = reckon(plan, table).gaps;
     for done in 0..allowed {
-        let before = table;
-        let mut sums = [0; MOST_PORTS];
-        match round(plan, before, &gaps, &mut table, &mut sums) {
-            Err(fault) => {
-                return Found {
-                    table,
-                    rounds: done,
-                    answer: Err(fault),
-                }
-            }
-            Ok(still) => {
-                if still {
-                    return Found {
-                        table,
-                        rounds: done + 1,
-                        answer: Ok(()),
-                    };
-                }
-            }
+        let before = *table;
+        let mut sums = PortLoads::none();
+        if round(plan, before, &gaps, table, &mut sums)? {
+            return Ok(done + 1);
         }
         set_gaps(plan, &sums, &mut gaps);
     }
-    Found {
-        table,
-        rounds: allowed,
-        answer: Err(TableFault::Rounds),
-    }
+    Err(TableFault::Rounds)
 }
 
-// Whether what was found is the least table: why the rounds ended, else whether it is crowded.
-fn verdict(plan: &Plan, found: &Found) -> Result<(), TableFault>
-    requires { Sought plan.now.parts found.now.table found.now.rounds found.now.answer }
-    ensures value { result ≡ and_then found.now.answer (crowds_answer plan.now.parts found.now.table) }
-    ensures shown { Shown plan.now.parts found.now.table found.now.rounds result }
-    ensures accepted { is_ok result ≡ true → accepts plan.now.parts found.now.table ≡ true }
+// The rounds that make the least table, or why there is none; and the last table made.
+fn seek(plan: &Plan, allowed: u32, table: &mut Table) -> Result<u32, TableFault>
+    requires { table.old ≡ start plan.now.parts }
+    ensures table { table.new ≡ (find plan.now.parts allowed).table }
+    ensures answer { result ≡ rounds_answer plan.now.parts (find plan.now.parts allowed) }
+    ensures shown { Shown plan.now.parts table.new result }
+    ensures accepted { OnOk result (accepts plan.now.parts table.new ≡ true) }
 {
-    match found.answer {
-        Err(fault) => Err(fault),
-        Ok(_) => crowds(plan, &found.table),
-    }
+    let rounds = find(plan, allowed, table)?;
+    crowds(plan, table)?;
+    Ok(rounds)
 }
 
 // The table's cells, row after row, at the scratch's front.
@@ -103,8 +76,11 @@ fn lay(table: &Table, scratch: &mut [u64])
     requires { 512 ≤ length scratch.old }
     ensures { scratch.new ≡ flat table.now ++ drop 512 scratch.old }
 {
-    for i in 0..TABLE_CELLS {
-        scratch[i] = table.rows[i / MOST_HOPS].cells[i % MOST_HOPS] as u64;
+    // by the cell's number: of a slice written through a zip nothing is known afterwards
+    for (f, row) in table.rows.iter().enumerate() {
+        for (k, cell) in row.cells.iter().enumerate() {
+            scratch[f * MOST_HOPS + k] = u64::from(*cell);
+        }
     }
 }
 
@@ -121,14 +97,12 @@ pub fn least(plan: Plan, rounds: u32, scratch: &mut [u64]) -> Result<Quote, Tabl
     if scratch.len() < TABLE_CELLS {
         return Err(TableFault::Scratch);
     }
-    let found = find(&plan, rounds);
-    lay(&found.table, scratch);
-    match verdict(&plan, &found) {
-        Err(fault) => Err(fault),
-        Ok(_) => Ok(Quote {
-            plan,
-            table: found.table,
-            rounds: found.rounds,
-        }),
-    }
+    let mut table = start(&plan);
+    let found = seek(&plan, rounds, &mut table);
+    lay(&table, scratch);
+    Ok(Quote {
+        plan,
+        table,
+        rounds: found?,
+    })
 }

@@ -1,42 +1,42 @@
 // What a quote tells of all its ports and flows at once.
-ghost use Rattle.std.specs.Prelude.{◌≡◌, ℕ, ◌<◌, slice_index};
+ghost use Rattle.std.specs.Prelude.{◌≡◌, ℕ, ◌<◌, slice_index, slice_index_or};
 ghost use Rattle.table.specs.Figures.{Figured};
-ghost use Rattle.table.specs.Loads.{backlog};
+ghost use Rattle.table.specs.Loads.{backlog, delay};
 ghost use Rattle.table.specs.Paths.{flow_delay};
-ghost use Rattle.table.specs.Reckons.{Bounded, Reckons};
+ghost use Rattle.table.specs.Reckons.{Reckons};
 
 use super::Quote;
-use super::figures::Figures;
-use crate::crowds::held;
-use crate::loads::{Reckoned, flow_of};
-use crate::paths::delay_along;
-use crate::reckons::reckon;
+use super::figures::{Figures, PortFigures};
+use crate::reckons::{Reckoned, reckon};
+use crate::routes::route_of;
 use draft::Table;
 use draft::limits::{MOST_FLOWS, MOST_PORTS};
 use plan::Plan;
 
-// B + r × D of each port, and 0 past the plan's ports.
-fn backlogs(plan: &Plan, ports: &Reckoned) -> [u64; MOST_PORTS]
-    requires { Bounded ports.now }
-    ensures { (t : Table) → Reckons plan.now.parts t ports.now → (p : ℕ) → p < 32 → slice_index result p ≡ backlog plan.now.parts t p }
+// D and B + r × D of each port, and 0 past the plan's ports.
+fn port_figures(plan: &Plan, reckoned: &Reckoned) -> [PortFigures; MOST_PORTS]
+    ensures { (t : Table) → Reckons plan.now.parts t reckoned.now → (p : ℕ) → p < 32 → slice_index_or result p (record { delay = 0; backlog = 0 }) ≡ record { delay = delay plan.now.parts t p; backlog = backlog plan.now.parts t p } }
 {
     let rates = plan.rates();
-    let mut found = [0; MOST_PORTS];
-    for p in 0..plan.parts.size.ports {
-        found[p] = held(ports.loads[p], rates[p], ports.delays[p]);
+    let mut found = [PortFigures::default(); MOST_PORTS];
+    let used = &mut found[..plan.parts.size.ports];
+    for (p, figures) in used.iter_mut().enumerate() {
+        *figures = PortFigures {
+            delay: reckoned.delays.slots[p],
+            backlog: reckoned.backlog(plan, p, rates[p]),
+        };
     }
     found
 }
 
 // The delay of each flow, and 0 past the plan's flows.
-fn flow_delays(plan: &Plan, ports: &Reckoned) -> [u64; MOST_FLOWS]
-    requires { Bounded ports.now }
-    ensures { (t : Table) → Reckons plan.now.parts t ports.now → (f : ℕ) → f < 64 → slice_index result f ≡ flow_delay plan.now.parts t f }
+fn flow_delays(plan: &Plan, reckoned: &Reckoned) -> [u64; MOST_FLOWS]
+    ensures { (t : Table) → Reckons plan.now.parts t reckoned.now → (f : ℕ) → f < 64 → slice_index result f ≡ flow_delay plan.now.parts t f }
 {
     let mut found = [0; MOST_FLOWS];
-    for f in 0..plan.parts.size.flows {
-        let flow = flow_of(plan, f);
-        found[f] = delay_along(flow, &ports.delays) + (flow.path.hops as u64 - 1);
+    let used = &mut found[..plan.parts.size.flows];
+    for (f, delay) in used.iter_mut().enumerate() {
+        *delay = route_of(plan, f).delay(&reckoned.delays);
     }
     found
 }
@@ -46,13 +46,10 @@ impl Quote {
     pub fn figures(&self) -> Figures
         ensures { Figured self.now.plan.parts self.now.table result }
     {
-        let ports = reckon(&self.plan, &self.table);
-        let backlogs = backlogs(&self.plan, &ports);
-        let flows = flow_delays(&self.plan, &ports);
+        let reckoned = reckon(&self.plan, &self.table);
         Figures {
-            delays: ports.delays,
-            backlogs,
-            flows,
+            ports: port_figures(&self.plan, &reckoned),
+            flows: flow_delays(&self.plan, &reckoned),
         }
     }
 }

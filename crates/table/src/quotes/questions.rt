@@ -4,9 +4,8 @@ ghost use Rattle.table.specs.Loads.{backlog, delay};
 ghost use Rattle.table.specs.Paths.{flow_delay};
 
 use super::Quote;
-use crate::loads::{backlog, delay, flow_of};
-use crate::paths::delay_along;
-use crate::reckons::reckon;
+use crate::reckons::{backlog, delay, reckon};
+use crate::routes::route_of;
 
 impl Quote {
     // D of a port, and 0 for what is no port.
@@ -30,7 +29,6 @@ impl Quote {
         if f >= self.plan.parts.size.flows {
             return 0;
         }
-        let flow = flow_of(&self.plan, f);
-        delay_along(flow, &reckon(&self.plan, &self.table).delays) + (flow.path.hops as u64 - 1)
+        route_of(&self.plan, f).delay(&reckon(&self.plan, &self.table).delays)
     }
 }

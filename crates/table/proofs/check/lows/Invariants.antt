@@ -9,9 +9,9 @@ use Rattle.table.proofs.check.lows.Given as goal
 abbrev pub invariant-search : goal.invariant-search
 invariant-search l =
     (l.answer ≡ Ok tt)
-    × (first_refusal (λ f. lows_in f (flow_at l.plan.parts f) l.gaps (row_at l.table f)) l.f ≡ Ok tt)
+    × (first_refusal (λ f. lows_in f (flow_at l.plan.parts f) l.gaps.slots (row_at l.table f)) l.f ≡ Ok tt)
 
 abbrev pub invariant-loop-k : goal.invariant-loop-k
 invariant-loop-k l =
-    (l.answer ≡ Ok tt) × (l.need ≡ need_by l.flow l.gaps l.row l.k)
-    × (first_refusal (λ k. unless (reaches l.flow l.gaps l.row k) (Low (l.f * 8 + k))) l.k ≡ Ok tt)
+    (l.answer ≡ Ok tt) × (l.need ≡ need_by l.route.flow.now l.gaps.slots (row_at l.table l.f) l.k)
+    × (first_refusal (λ k. unless (reaches l.route.flow.now l.gaps.slots (row_at l.table l.f) k) (Low (l.f * 8 + k))) l.k ≡ Ok tt)

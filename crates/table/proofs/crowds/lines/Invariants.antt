@@ -8,4 +8,4 @@ use Rattle.table.proofs.crowds.lines.Given as goal
 
 abbrev pub invariant-loop-p : goal.invariant-loop-p
 invariant-loop-p l =
-    first_refusal (λ p. unless (line_fits (port_at l.plan.parts p) (get_or l.figures.loads p 0 + rates_through l.plan.parts p * get_or l.figures.delays p 0)) (Crowded p)) l.p ≡ Ok tt
+    first_refusal (λ p. unless (line_fits (port_at l.plan.parts p) (get_or l.figures.loads.bits p 0 + rates_through l.plan.parts p * get_or l.figures.delays.slots p 0)) (Crowded p)) l.p ≡ Ok tt

@@ -1,30 +1,13 @@
-use Rattle.std.proofs.Common.{◌≡◌, ℕ, List, sym, ap, ◌∙◌, arith}
-use Rattle.refusal.specs.Firsts.{first_refusal}
+use Rattle.std.proofs.lemmas.Result.{err_from_is_err_and}
 use Rattle.draft.specs.Plans.{flow_at}
-use Rattle.draft.specs.declared.flow.Flow.{Flow}
 use Rattle.table.specs.Checks.{regulators_in}
-use Rattle.table.proofs.Turns.{rows_at, rows_more}
+use Rattle.table.proofs.Turns.{rows_at}
 use Rattle.table.proofs.crowds.regulators.Goals as goal
 
-pub returns-in-Err : goal.returns-in-Err
-returns-in-Err c =
+pub returns-in_err-regulators_in : goal.returns-in_err-regulators_in
+returns-in_err-regulators_in c =
     let P = c.args.plan.now.parts in
-    let ds = c.args.delays.now in
-    let f = c.loop-f.f in
-    rows_at (λ f. regulators_in f (flow_at P f) ds) P.size.flows f c.in-Err.fault c.loop-f-test.true c.loop-f.invariant
-    (c.in-Err.ensures ∙ ap (λ (w : Flow). regulators_in f w ds) c.flow_of.ensures.value)
-
-pub loop-f-preserved : goal.loop-f-preserved
-loop-f-preserved c =
-    let P = c.args.plan.now.parts in
-    let ds = c.args.delays.now in
-    let f = c.loop-f.f in
-    rows_more (λ f. regulators_in f (flow_at P f) ds) f c.loop-f.invariant
-    (c.in-Ok.ensures ∙ ap (λ (w : Flow). regulators_in f w ds) c.flow_of.ensures.value)
-
-pub returns : goal.returns
-returns c =
-    let P = c.args.plan.now.parts in
-    let ds = c.args.delays.now in
-    let e : c.loop-f.f ≡ P.size.flows = omega arith in
-    sym c.loop-f.invariant ∙ ap (first_refusal (λ f. regulators_in f (flow_at P f) ds)) e
+    let ds = c.args.delays.now.slots in
+    let p = err_from_is_err_and c.from_residual.result c.from_residual.ensures.1 in
+    rw (p.1, p.2) (rows_at (λ f. regulators_in f (flow_at P f) ds) P.size.flows c.loop-f.f c.in_err-regulators_in.field-0.0 c.loop-f-test.true c.loop-f.invariant
+    (rw (c.route_of.ensures.number, c.route_of.ensures.flow) at c.in_err-regulators_in.ensures))

@@ -1,13 +1,11 @@
 use Rattle.std.proofs.Common.{◌≡◌, ℕ, ◌-◌, ◌<◌, cond, ltb, length, get_or}
 use Rattle.draft.specs.Plans.{port_at}
-use Rattle.table.specs.Bounds.{Few}
 use Rattle.table.specs.Loads.{delay_by}
 use Rattle.table.proofs.reckons.reckon.Given as goal
 
 abbrev pub invariant-loop-p : goal.invariant-loop-p
 invariant-loop-p l =
-    (length l.delays ≡ 32)
-    × ((k : ℕ) → k < 32 → get_or l.delays k 0 ≡ cond (ltb k l.p) (delay_by (port_at l.plan.parts k) (get_or l.loads k 0)) 0)
-    × Few l.delays × (length l.gaps ≡ 32)
-    × ((k : ℕ) → k < 32 → get_or l.gaps k 0 ≡ cond (ltb k l.p) (delay_by (port_at l.plan.parts k) (get_or l.loads k 0) - (port_at l.plan.parts k).stay) 0)
-    × Few l.gaps
+    (length l.delays.slots ≡ 32)
+    × ((k : ℕ) → k < 32 → get_or l.delays.slots k 0 ≡ cond (ltb k l.p) (delay_by (port_at l.plan.parts k) (get_or l.loads.bits k 0)) 0)
+    × (length l.gaps.slots ≡ 32)
+    × ((k : ℕ) → k < 32 → get_or l.gaps.slots k 0 ≡ cond (ltb k l.p) (delay_by (port_at l.plan.parts k) (get_or l.loads.bits k 0) - (port_at l.plan.parts k).stay) 0)

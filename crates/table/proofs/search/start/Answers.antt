@@ -1,27 +1,16 @@
-use Rattle.std.proofs.Common.{◌<◌, length, ap, ◌∙◌, arith}
-use Rattle.std.proofs.lemmas.List.{length-set}
-use Rattle.std.proofs.lemmas.Bool.{le-ltb}
+use Rattle.std.proofs.Common.{◌++◌, drop, refl, arith}
+use Rattle.std.proofs.lemmas.List.{get_or-replicate, length-append, length-drop}
 use Rattle.draft.specs.Plans.{flow_at, no_row}
 use Rattle.table.specs.Rounds.{start_row, zero_row}
-use Rattle.table.proofs.Places.{fill_more}
+use Rattle.table.proofs.Places.{front_filled}
 use Rattle.table.proofs.Tables.{table_all}
 use Rattle.table.proofs.search.start.Goals as goal
 
-pub loop-f-init : goal.loop-f-init
-loop-f-init c = (c.zeros-table.ensures.long, λ g lt. rw (le-ltb g 0 (omega arith)) (c.zeros-table.ensures.value g lt))
-
-pub loop-f-preserved : goal.loop-f-preserved
-loop-f-preserved c =
-    let P = c.args.plan.now.parts in
-    let xs = c.loop-f.table.rows in
-    let f = c.loop-f.f in
-    let x = c.start_row.result in
-    let i : f < length xs = omega (arith, c.flow_of.ensures.within) in (
-      length-set xs f x ∙ c.loop-f.invariant.0,
-      λ g lt. fill_more (λ g. start_row (flow_at P g)) (λ _. zero_row) xs f x no_row i (c.start_row.ensures ∙ ap start_row c.flow_of.ensures.value) (λ a l. c.loop-f.invariant.1 a (omega arith)) g (omega arith),
-    )
-
 pub returns : goal.returns
 returns c =
-    let P = c.args.plan.now.parts in
-    table_all P (λ g. start_row (flow_at P g)) c.loop-f.table c.loop-f.f c.loop-f.invariant.0 (omega arith) c.loop-f.invariant.1
+    let P = c.args.plan.now in
+    let n = P.parts.size.flows in
+    let front = c.loop-f.used in
+    let zs = c.none.result.table.rows in
+    table_all P.parts (λ g. start_row (flow_at P.parts g)) (record { rows = front ++ drop n zs }) n (omega (arith, length-append front (drop n zs), length-drop n zs, P.few.1)) refl
+    (front_filled (λ g. start_row (flow_at P.parts g)) (λ _. zero_row) no_row front zs n 64 c.loop-f.invariant.0 (λ k l. c.loop-f.invariant.1 k (omega arith)) (λ k l. rw c.none.ensures (get_or-replicate 64 k zero_row no_row l)))

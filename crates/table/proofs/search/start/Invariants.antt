@@ -1,9 +1,8 @@
-use Rattle.std.proofs.Common.{◌≡◌, ℕ, ◌<◌, cond, ltb, length}
-use Rattle.draft.specs.Plans.{flow_at, row_at}
-use Rattle.table.specs.Rounds.{start_row, zero_row}
+use Rattle.std.proofs.Common.{◌≡◌, ℕ, ◌<◌, length, slice_index_or}
+use Rattle.draft.specs.Plans.{flow_at, no_row}
+use Rattle.table.specs.Rounds.{start_row}
 use Rattle.table.proofs.search.start.Given as goal
 
 abbrev pub invariant-loop-f : goal.invariant-loop-f
 invariant-loop-f l =
-    (length l.table.rows ≡ 64)
-    × ((g : ℕ) → g < 64 → row_at l.table g ≡ cond (ltb g l.f) (start_row (flow_at l.plan.parts g)) zero_row)
+    (length l.used ≡ l.plan.parts.size.flows) × ((g : ℕ) → g < l.f → slice_index_or l.used g no_row ≡ start_row (flow_at l.plan.parts g))

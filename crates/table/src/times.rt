@@ -1,0 +1,39 @@
+// Times of ports.
+ghost use Rattle.std.specs.Prelude.{◌≡◌, ℕ, ◌<◌, ◌≤◌, replicate, slice_index, slice_set};
+ghost use Rattle.table.specs.Bounds.{most_delay};
+
+use draft::limits::MOST_PORTS;
+
+// D or D - m of each port, in slots: none is longer than the fullest table makes it.
+#[derive(Clone, Copy)]
+pub struct PortTimes {
+    pub slots: [u64; MOST_PORTS],
+    ghost few: { (p : ℕ) → p < 32 → slice_index slots p ≤ most_delay },
+}
+
+impl PortTimes {
+    // No time at any port.
+    pub(crate) fn none() -> PortTimes
+        ensures { result.slots ≡ replicate 32 0 }
+    {
+        PortTimes {
+            slots: [0; MOST_PORTS],
+        }
+    }
+
+    // The time at port p, and 0 where there is none.
+    pub(crate) fn at(&self, p: usize) -> u64
+        ensures { result ≡ slice_index self.now.slots p }
+    {
+        self.slots.get(p).copied().unwrap_or(0)
+    }
+
+    // So many slots at port p.
+    pub(crate) fn set(&mut self, p: usize, slots: u64)
+        requires port { p < 32 }
+        requires few { slots ≤ most_delay }
+        ensures { self.new.slots ≡ slice_set self.old.slots p slots }
+    {
+        self.slots[p] = slots;
+    }
+}
