@@ -13,7 +13,7 @@ use crate::reckons::{reckon, set_gaps};
 use crate::rounds::round;
 use crate::routes::{Route, route_of};
 use draft::limits::{MOST_HOPS, MOST_ROUNDS, TABLE_CELLS};
-use draft::{Proposal, Row, Table};
+use draft::{Row, Table};
 use plan::Plan;
 
 impl Route<'_> {
@@ -31,7 +31,7 @@ impl Route<'_> {
 fn start(plan: &Plan) -> Table
     ensures { result ≡ start plan.now.parts }
 {
-    let mut rows = Proposal::none().table.rows;
+    let mut rows = Table::empty().rows;
     let used = &mut rows[..plan.parts.size.flows];
     for (f, row) in used.iter_mut().enumerate() {
         *row = route_of(plan, f).start_row();
