@@ -1,7 +1,7 @@
 // A port and its service.
 
 // A port of a switch, by the service it keeps: rate R, latency T, least stay m, shortest frame l.
-#[derive(Clone, Copy)]
+#[derive(Clone, Copy, Default, PartialEq, Eq)]
 pub struct Port {
     pub rate: u32,
     pub latency: u32,
