@@ -46,6 +46,7 @@ fn frame(dice: u64) -> Frame {
 // Takes from a port until none is said, and counts each frame into the sum.
 fn empty<C: Cabinet>(cabinet: &mut C, port: usize, before: u64) -> u64 {
     let mut sum = before;
+    // A line holds 32 frames; a `while let` would have to show that the cabinet ends.
     for _turn in 0..32u64 {
         let Some(frame) = cabinet.take(port) else {
             break;

@@ -31,6 +31,6 @@ FilledRow w = Filled w.lane
 abbrev pub RisesRow : {K : Type 0} → Row K → Type 0
 RisesRow w = Rises w.lane
 
--- each of the first n
+-- each of the first n, whatever is taken for what stands past the end
 abbrev pub Each : {X : Type 0} → (X → Type 0) → ℕ → List X → Type 0
 Each P n xs = (k : ℕ) → k < n → (d : _) → P (slice_index_or xs k d)

@@ -31,11 +31,11 @@ pub trait Kind: Copy {
     fn fits(&self, figures: Port) -> bool
         ensures { result ≡ fits figures self.now };
 
-    // Whether the first frame of the line is handed over in this slot.
+    // Whether the first frame of the line is handed over in this slot. Of any other frame nothing is said.
     fn ready(&self, slot: u64, stay: u32, frame: Frame) -> bool
         ensures { (q : PortModel) → Leads (keeps self.now) q frame → result ≡ ready self.now slot stay frame };
 
-    // Counts the first frame of the line as handed over.
+    // Counts the first frame of the line as handed over. Of any other frame nothing is said.
     fn hand(&mut self, frame: Frame)
         ensures { (q : PortModel) → Leads (keeps self.old) q frame → self.new ≡ handed self.old frame };
 

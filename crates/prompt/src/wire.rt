@@ -36,12 +36,13 @@ impl Wire {
     }
 
     // The own finish with this frame, which is the next: the greater of itself and entry × C, plus the length.
+    // Where the port keeps what it is to, nothing wraps.
     fn own_after(&self, frame: Frame) -> u64
         ensures { own_after self.now.speed self.now.sent frame ≤ 30000000000000000 → result ≡ own_after self.now.speed self.now.sent frame }
     {
         self.sent
-            .max(frame.entry.saturating_mul(u64::from(self.speed)))
-            .saturating_add(u64::from(frame.len))
+            .max(frame.entry.wrapping_mul(u64::from(self.speed)))
+            .wrapping_add(u64::from(frame.len))
     }
 }
 
@@ -72,7 +73,7 @@ impl Kind for Wire {
 
     // The line has sent the frame, and it has stayed.
     fn ready(&self, slot: u64, stay: u32, frame: Frame) -> bool {
-        let done = up(self.own_after(frame), u64::from(self.speed)).saturating_add(u64::from(
+        let done = up(self.own_after(frame), u64::from(self.speed)).wrapping_add(u64::from(
             self.latency,
         ));
         done <= slot && frame.has_stayed(stay, slot)

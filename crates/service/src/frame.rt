@@ -19,7 +19,7 @@ impl Frame {
     pub fn has_stayed(&self, stay: u32, slot: u64) -> bool
         ensures { result ≡ has_stayed stay slot self.now }
     {
-        slot.checked_sub(u64::from(stay))
-            .is_some_and(|latest| self.entry <= latest)
+        let stay = u64::from(stay);
+        stay <= slot && self.entry <= slot - stay
     }
 }

@@ -32,6 +32,7 @@ impl Counting {
     }
 }
 
+// The questions are those of its table, asked one by one: a trait is not handed on as a whole.
 impl Cabinet for Counting {
     ghost model = { counting_model };
 

@@ -19,6 +19,7 @@ impl<C: Cabinet> Hesitant<C> {
     }
 }
 
+// The questions are those of the one inside, asked one by one: a trait is not handed on as a whole.
 impl<C: Cabinet> Cabinet for Hesitant<C> {
     ghost model = { λ h. C.Cabinet.model h.inside };
 

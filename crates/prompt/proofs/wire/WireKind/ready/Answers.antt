@@ -13,7 +13,7 @@ returns-then-done-slot c = λ q l.
     let o : c.own_after.result ≡ own = c.own_after.ensures (wire_small w q x l) in
     let u : c.up.result ≡ up own w.speed = c.up.ensures.value ∙ ap (λ n. up n c.from.result) o ∙ ap (up own) c.from.ensures in
     let h : up own w.speed + w.latency ≤ c.args.slot =
-    omega (arith, u, o, wire_small w q x l, wire_early w q l.well l.kept, c.up.ensures.within, c.from-2.ensures, c.saturating_add-done.ensures, c.if-done-slot.true) in
+    omega (arith, u, o, wire_small w q x l, wire_early w q l.well l.kept, c.up.ensures.within, c.from-2.ensures, c.if-done-slot.true) in
     rw (le-leb (up own w.speed + w.latency) c.args.slot h) c.has_stayed.ensures
 
 pub returns-else-done-slot : goal.returns-else-done-slot
@@ -24,5 +24,5 @@ returns-else-done-slot c = λ q l.
     let o : c.own_after.result ≡ own = c.own_after.ensures (wire_small w q x l) in
     let u : c.up.result ≡ up own w.speed = c.up.ensures.value ∙ ap (λ n. up n c.from.result) o ∙ ap (up own) c.from.ensures in
     let h : c.args.slot < up own w.speed + w.latency =
-    omega (arith, u, o, wire_small w q x l, wire_early w q l.well l.kept, c.up.ensures.within, c.from-2.ensures, c.saturating_add-done.ensures, c.if-done-slot.false) in
-    rw (lt-leb (up own w.speed + w.latency) c.args.slot h, lt-leb c.saturating_add-done.result c.args.slot c.if-done-slot.false)
+    omega (arith, u, o, wire_small w q x l, wire_early w q l.well l.kept, c.up.ensures.within, c.from-2.ensures, c.if-done-slot.false) in
+    rw (lt-leb (up own w.speed + w.latency) c.args.slot h) (lt-leb _ c.args.slot c.if-done-slot.false)
