@@ -1,10 +1,9 @@
 -- A cabinet that decides in time keeps the rule of take.
-use Rattle.std.proofs.Common.{◌≡◌, ℕ, ◌<◌, ◌≤◌, Bool, true, false, leb, List, [], ◌∷◌, length, drop, Some, None, Option, sym, refl, ap, ◌∙◌, ⊎_elim, arith}
-use Rattle.std.proofs.lemmas.List.{get_or_past}
-use Rattle.std.proofs.lemmas.Bool.{cases_lt, lt-leb}
+use Rattle.std.proofs.Common.{◌≡◌, ℕ, Bool, true, false, leb, List, [], ◌∷◌, drop, Some, None, Option, sym, refl, ap, ◌∙◌, arith}
+use Rattle.std.proofs.lemmas.Bool.{lt-leb}
 use Rattle.service.specs.declared.frame.Frame.{Frame}
 use Rattle.cabinet.specs.Advances.{has_due}
-use Rattle.cabinet.specs.Model.{Model, PortModel, frame_in, port_in, vacant}
+use Rattle.cabinet.specs.Model.{Model, PortModel, frame_in, port_in}
 use Rattle.cabinet.specs.Takes.{InTime, Taken, Timely, hand_answer, take_after}
 
 -- the first frame leads the line
@@ -41,12 +40,3 @@ timely_none slot q e =
       stayed = λ x f r. absurd (let z : ◌≡◌ {A = ℕ} 0 1 = cc in omega arith);
       none_due = λ r. has_due_none slot q.line e;
     }
-
--- a frame waits, so there is such a port
-pub front_port : (m : Model) (p : ℕ) (x : Frame) (xs : List Frame) → (port_in m p).line ≡ x ∷ xs → p < length m.ports
-front_port m p x xs e = ⊎_elim
-    (λ (h : p < length m.ports). h)
-    (λ (h : length m.ports ≤ p).
-    let z : [] ≡ x ∷ xs = sym (ap (λ (q : PortModel). q.line) (get_or_past m.ports p vacant h)) ∙ e in
-    absurd (let n : ◌≡◌ {A = ℕ} 0 1 = cc in omega arith))
-    (cases_lt p (length m.ports))

@@ -1,6 +1,5 @@
 -- One port as a cabinet keeps it: what it means, and what it keeps.
 use Rattle.std.specs.Prelude.{◌≡◌, ℕ, ◌+◌, ◌≤◌, Bool, true, ◌&&◌, List, [], ◌∷◌, ◌++◌, length, replicate, Some, None, Option, nat_le}
-use Rattle.draft.specs.Plans.{no_port}
 use Rattle.draft.specs.declared.port.Port.{Port}
 use Rattle.line.specs.Ring.{turned}
 use Rattle.plan.specs.Checks.{port_fits}
@@ -8,10 +7,6 @@ use Rattle.service.specs.Entries.{due_by, no_frame}
 use Rattle.service.specs.declared.frame.Frame.{Frame}
 use Rattle.cabinet.specs.Model.{PortModel, cut}
 use Rattle.ports.specs.declared.lane.Lane.{Lane}
-
--- what stands where there is no lane
-abbrev pub no_lane : Lane
-no_lane = record { figures = no_port; finish = 0; frames = []; first = 0; waiting = 0 }
 
 -- a lane of these figures into which nothing has been put
 abbrev pub blank_lane : Port → Lane
