@@ -1,4 +1,5 @@
 // A cabinet around any other, known by the interface alone.
+use crate::thirds::Thirds;
 
 pub mod serving;
 
@@ -6,5 +7,5 @@ pub mod serving;
 #[derive(Drop)]
 pub struct Hesitant<C> {
     inside: C,
-    asked: u8,
+    thirds: Thirds,
 }

@@ -3,6 +3,7 @@
 
 pub mod counting;
 pub mod hesitant;
+mod thirds;
 
 pub use counting::Counting;
 pub use hesitant::Hesitant;

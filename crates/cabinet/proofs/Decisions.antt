@@ -1,50 +1,42 @@
 -- A cabinet that decides in time keeps the rule of take.
-use Rattle.std.proofs.Common.{◌≡◌, ℕ, ◌<◌, ◌≤◌, Bool, true, false, leb, List, [], ◌∷◌, length, drop, Some, None, Option, sym, refl, ap, ◌∙◌, ⊎_elim, arith}
-use Rattle.std.proofs.lemmas.List.{get_or_past}
-use Rattle.std.proofs.lemmas.Bool.{cases_lt, lt-leb}
+use Rattle.std.proofs.Common.{◌≡◌, ℕ, Bool, true, false, leb, List, [], ◌∷◌, drop, Some, None, Option, sym, refl, ap, ◌∙◌, arith}
+use Rattle.std.proofs.lemmas.Bool.{lt-leb}
 use Rattle.service.specs.declared.frame.Frame.{Frame}
 use Rattle.cabinet.specs.Advances.{has_due}
-use Rattle.cabinet.specs.Model.{Model, PortModel, frame_in, port_in, vacant}
-use Rattle.cabinet.specs.Takes.{Stayed, Taken, Timely, hand_answer, take_after}
-use Rattle.cabinet.proofs.Searches.{has_due_none}
+use Rattle.cabinet.specs.Model.{Model, PortModel, frame_in, port_in}
+use Rattle.cabinet.specs.Takes.{InTime, Taken, Timely, hand_answer, take_after}
 
 -- the first frame leads the line
 pub front : (xs : List Frame) (x : Frame) → Some x ≡ frame_in xs 0 → xs ≡ x ∷ drop 1 xs
 front [] x e = absurd (let z : ◌≡◌ {A = ℕ} 0 1 = cc in omega arith)
 front (y ∷ xs) x e = let q : y ≡ x = cc in ap (λ (z : Frame). z ∷ xs) q
 
-pub timely_taken : (m n : Model) (p : ℕ) (ready : Bool) (r : Option Frame) → r ≡ hand_answer ready m p → n ≡ take_after m p r → Timely m p ready → Taken m p r n
+has_due_none : (s : ℕ) (xs : List Frame) → None ≡ frame_in xs 0 → has_due s xs ≡ false
+has_due_none s [] e = refl
+has_due_none s (x ∷ xs) e = absurd (let z : ◌≡◌ {A = ℕ} 0 1 = cc in omega arith)
+
+pub timely_taken : (m n : Model) (p : ℕ) (ready : Bool) (r : Option Frame) → r ≡ hand_answer ready m p → n ≡ take_after m p r → Timely m.slot (port_in m p) ready → Taken m p r n
 timely_taken m n p true (Some x) e a t =
     record { first = front (port_in m p).line x e; stayed = t.stayed x e refl; after = a }
-timely_taken m n p true None e a t = record { none_due = has_due_none m.slot (port_in m p).line 0 e; after = a }
+timely_taken m n p true None e a t = record { none_due = has_due_none m.slot (port_in m p).line e; after = a }
 timely_taken m n p false (Some x) e a t = absurd (let z : ◌≡◌ {A = ℕ} 0 1 = cc in omega arith)
 timely_taken m n p false None e a t = record { none_due = t.none_due refl; after = a }
 
-same_first : (m : Model) (p : ℕ) (x y : Frame) → Some x ≡ frame_in (port_in m p).line 0 → Some y ≡ frame_in (port_in m p).line 0 → x ≡ y
-same_first m p x y a b = let q : ◌≡◌ {A = Option Frame} (Some x) (Some y) = a ∙ sym b in cc
+same_first : (xs : List Frame) (x y : Frame) → Some x ≡ frame_in xs 0 → Some y ≡ frame_in xs 0 → x ≡ y
+same_first xs x y a b = let q : ◌≡◌ {A = Option Frame} (Some x) (Some y) = a ∙ sym b in cc
 
 -- the first frame is x, and it is the one that tells whether any is due: so is whoever decides by it
-pub timely_by : (m : Model) (p : ℕ) (x : Frame) (ready : Bool) → Some x ≡ frame_in (port_in m p).line 0 → has_due m.slot (port_in m p).line ≡ leb x.due m.slot
-    → (ready ≡ true → Stayed m.slot (port_in m p) x) → (ready ≡ false → m.slot < x.due) → Timely m p ready
-timely_by m p x ready e d stayed later =
+pub timely_by : (slot : ℕ) (q : PortModel) (x : Frame) (ready : Bool) → Some x ≡ frame_in q.line 0 → has_due slot q.line ≡ leb x.due slot → InTime slot q x ready → Timely slot q ready
+timely_by slot q x ready e d t =
     record {
-      stayed = λ y f r. rw (← same_first m p x y e f) (stayed r);
-      none_due = λ r. d ∙ lt-leb x.due m.slot (later r);
+      stayed = λ y f r. rw (← same_first q.line x y e f) (t.stayed r);
+      none_due = λ r. d ∙ lt-leb x.due slot (t.later r);
     }
 
 -- no frame waits
-pub timely_none : (m : Model) (p : ℕ) → None ≡ frame_in (port_in m p).line 0 → Timely m p false
-timely_none m p e =
+pub timely_none : (slot : ℕ) (q : PortModel) → None ≡ frame_in q.line 0 → Timely slot q false
+timely_none slot q e =
     record {
       stayed = λ x f r. absurd (let z : ◌≡◌ {A = ℕ} 0 1 = cc in omega arith);
-      none_due = λ r. has_due_none m.slot (port_in m p).line 0 e;
+      none_due = λ r. has_due_none slot q.line e;
     }
-
--- a frame waits, so there is such a port
-pub front_port : (m : Model) (p : ℕ) (x : Frame) (xs : List Frame) → (port_in m p).line ≡ x ∷ xs → p < length m.ports
-front_port m p x xs e = ⊎_elim
-    (λ (h : p < length m.ports). h)
-    (λ (h : length m.ports ≤ p).
-    let z : [] ≡ x ∷ xs = sym (ap (λ (q : PortModel). q.line) (get_or_past m.ports p vacant h)) ∙ e in
-    absurd (let n : ◌≡◌ {A = ℕ} 0 1 = cc in omega arith))
-    (cases_lt p (length m.ports))

@@ -1,5 +1,6 @@
 -- Advance: refused while a frame is owed, and in the last slot.
-use Rattle.std.specs.Prelude.{ℕ, ◌+◌, Bool, true, false, cond, List, [], ◌∷◌, is_ok, Some, None, Err, Option, Result, nat_le, nat_lt}
+use Rattle.std.specs.Prelude.{ℕ, ◌+◌, Bool, cond, List, [], ◌∷◌, is_ok, Some, None, Err, Option, Result, nat_le, nat_lt}
+use Rattle.std.specs.List.{list_any}
 use Rattle.service.specs.declared.frame.Frame.{Frame}
 use Rattle.cabinet.specs.Faults.{unless}
 use Rattle.cabinet.specs.Model.{Model, PortModel}
@@ -8,8 +9,7 @@ use Rattle.cabinet.specs.declared.fault.CabinetFault.TheVariants.{LastSlot, Owed
 
 -- some frame of the line is due by this slot
 abbrev pub has_due : ℕ → List Frame → Bool
-has_due slot [] = false
-has_due slot (x ∷ xs) = cond (nat_le x.due slot) true (has_due slot xs)
+has_due slot xs = list_any (λ x. nat_le x.due slot) xs
 
 -- the first of these ports, numbered from p on, at which a frame is due
 abbrev pub owed_from : ℕ → List PortModel → ℕ → Option ℕ

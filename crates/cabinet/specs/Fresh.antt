@@ -1,5 +1,6 @@
 -- Fresh: slot 0, no frame waiting, every finish 0.
-use Rattle.std.specs.Prelude.{Bool, true, ◌&&◌, List, [], ◌∷◌, length, ◌==◌}
+use Rattle.std.specs.Prelude.{Bool, ◌&&◌, List, [], length, ◌==◌}
+use Rattle.std.specs.List.{list_all}
 use Rattle.draft.specs.declared.port.Port.{Port}
 use Rattle.cabinet.specs.Model.{Model, PortModel}
 
@@ -8,8 +9,7 @@ abbrev pub idle : PortModel → Bool
 idle q = q.finish == 0 && length q.line == 0
 
 abbrev pub all_idle : List PortModel → Bool
-all_idle [] = true
-all_idle (q ∷ qs) = idle q && all_idle qs
+all_idle qs = list_all idle qs
 
 abbrev pub fresh_model : Model → Bool
 fresh_model m = m.slot == 0 && all_idle m.ports

@@ -1,5 +1,5 @@
 -- What a cabinet means: a slot and, for each port, its figures, its finish and its line.
-use Rattle.std.specs.Prelude.{ℕ, zero, suc, List, [], ◌∷◌, drop, Some, None, Option, slice_index_or, slice_set}
+use Rattle.std.specs.Prelude.{ℕ, List, [], drop, Option, slice_get, slice_index_or, slice_set}
 use Rattle.draft.specs.Plans.{no_port}
 use Rattle.draft.specs.declared.port.Port.{Port}
 use Rattle.service.specs.declared.frame.Frame.{Frame}
@@ -29,9 +29,7 @@ with_port m p q = record { slot = m.slot; ports = slice_set m.ports p q }
 
 -- the i-th frame of a line; or none, past its end
 abbrev pub frame_in : List Frame → ℕ → Option Frame
-frame_in [] i = None
-frame_in (x ∷ xs) zero = Some x
-frame_in (x ∷ xs) (suc i) = frame_in xs i
+frame_in xs i = slice_get xs i
 
 -- the same port without the first n frames of its line
 abbrev pub cut : ℕ → PortModel → PortModel

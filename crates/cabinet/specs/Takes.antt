@@ -1,5 +1,5 @@
 -- Take: what a cabinet may hand over, and when it may say none.
-use Rattle.std.specs.Prelude.{◌≡◌, ℕ, ◌+◌, ◌≤◌, Bool, true, false, cond, ◌∷◌, drop, Some, None, Option}
+use Rattle.std.specs.Prelude.{◌≡◌, ℕ, ◌+◌, ◌<◌, ◌≤◌, Bool, true, false, cond, ◌∷◌, drop, Some, None, Option}
 use Rattle.service.specs.declared.frame.Frame.{Frame}
 use Rattle.cabinet.specs.Advances.{has_due}
 use Rattle.cabinet.specs.Model.{Model, PortModel, cut, frame_in, port_in, with_port}
@@ -24,7 +24,7 @@ Taken m p None n = Held m p n
 Taken m p (Some x) n = Handed m p x n
 
 -- Of a cabinet that decides by the first frame of a line alone: there is one, and it passes the test
-abbrev pub passes : (Frame → Bool) → Option Frame → Bool
+abbrev pub passes : {X : Type 0} → (X → Bool) → Option X → Bool
 passes test None = false
 passes test (Some x) = test x
 
@@ -37,7 +37,12 @@ abbrev pub take_after : Model → ℕ → Option Frame → Model
 take_after m p None = m
 take_after m p (Some x) = with_port m p (cut 1 (port_in m p))
 
--- it is ready in time: not before the first frame's least stay, and no later than a frame is due
-pub record Timely (m : Model) (p : ℕ) (ready : Bool) : Type 0 where
-  pub stayed : (x : Frame) → Some x ≡ frame_in (port_in m p).line 0 → ready ≡ true → Stayed m.slot (port_in m p) x
-  pub none_due : ready ≡ false → has_due m.slot (port_in m p).line ≡ false
+-- handed over not before its least stay, and no later than it is due
+pub record InTime (slot : ℕ) (q : PortModel) (x : Frame) (ready : Bool) : Type 0 where
+  pub stayed : ready ≡ true → Stayed slot q x
+  pub later : ready ≡ false → slot < x.due
+
+-- ready in time, whether a frame waits at the port or not
+pub record Timely (slot : ℕ) (q : PortModel) (ready : Bool) : Type 0 where
+  pub stayed : (x : Frame) → Some x ≡ frame_in q.line 0 → ready ≡ true → Stayed slot q x
+  pub none_due : ready ≡ false → has_due slot q.line ≡ false

@@ -44,18 +44,8 @@ pub trait Cabinet {
     fn fresh(&self) -> bool
         ensures { result ≡ fresh_model (model self.now) }
     {
-        if self.slot() != 0 {
-            return false;
-        }
-        for port in 0..self.ports() {
-            if self.finish(port) != 0 {
-                return false;
-            }
-            if self.waiting(port) != 0 {
-                return false;
-            }
-        }
-        true
+        self.slot() == 0
+            && (0..self.ports()).all(|port| self.finish(port) == 0 && self.waiting(port) == 0)
     }
 
     // Whether a frame that waits at the port is due.
@@ -63,27 +53,14 @@ pub trait Cabinet {
         ensures { result ≡ has_due (model self.now).slot (port_in (model self.now) port).line }
     {
         let slot = self.slot();
-        for i in 0..self.waiting(port) {
-            let Some(frame) = self.frame(port, i) else {
-                return false;
-            };
-            if frame.due <= slot {
-                return true;
-            }
-        }
-        false
+        (0..self.waiting(port)).any(|i| self.frame(port, i).is_some_and(|frame| frame.due <= slot))
     }
 
     // The lowest port that owes a frame.
     fn owed(&self) -> Option<usize>
         ensures { result ≡ owed_port (model self.now) }
     {
-        for port in 0..self.ports() {
-            if self.owes(port) {
-                return Some(port);
-            }
-        }
-        None
+        (0..self.ports()).find(|port| self.owes(*port))
     }
 
     // Enters a frame at the end of a port's line. Its entry slot and due slot are the cabinet's word.

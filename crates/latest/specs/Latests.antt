@@ -1,13 +1,18 @@
--- The latest kind: what it means, and when it hands a frame over.
-use Rattle.std.specs.Prelude.{ℕ, Bool, leb}
-use Rattle.cabinet.specs.Model.{Model, frame_in, port_in}
-use Rattle.cabinet.specs.Takes.{passes}
-use Rattle.ports.specs.Tables.{table_model}
-use Rattle.latest.specs.declared.latest.Latest.{Latest}
+-- The latest kind: when it hands a frame over, which is in time.
+use Rattle.std.specs.Prelude.{ℕ, ◌+◌, ◌≤◌, Bool, nat_le}
+use Rattle.std.proofs.Common.{arith}
+use Rattle.std.proofs.lemmas.Bool.{leb-false, leb-true}
+use Rattle.service.specs.declared.frame.Frame.{Frame}
+use Rattle.cabinet.specs.Model.{PortModel}
+use Rattle.cabinet.specs.Takes.{InTime}
 
-abbrev pub latest_model : Latest → Model
-latest_model c = table_model c.table
+-- the frame is due
+abbrev pub latest_ready : ℕ → Frame → Bool
+latest_ready slot x = nat_le x.due slot
 
--- the first frame of the line is due
-abbrev pub latest_ready : Model → ℕ → Bool
-latest_ready m p = passes (λ x. leb x.due m.slot) (frame_in (port_in m p).line 0)
+pub latest_in_time : (slot : ℕ) (q : PortModel) (x : Frame) → x.entry + q.figures.stay ≤ x.due → InTime slot q x (latest_ready slot x)
+latest_in_time slot q x h =
+    record {
+      stayed = λ r. let d : x.due ≤ slot = leb-true x.due slot r in omega arith;
+      later = λ r. leb-false x.due slot r;
+    }

@@ -1,6 +1,6 @@
 // The latest kind of cabinet: it hands over each frame in its due slot.
 #![tactic(auto)]
 
-pub mod latest;
+pub mod due;
 
-pub use latest::Latest;
+pub use due::{Due, Latest};

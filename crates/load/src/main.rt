@@ -5,9 +5,10 @@
 use anyhow::anyhow;
 use cabinet::Cabinet;
 use draft::Port;
-use gathering::Gathering;
-use latest::Latest;
-use prompt::Prompt;
+use gathering::{Gathering, Period};
+use latest::{Due, Latest};
+use ports::{Kind, Table};
+use prompt::{Prompt, Wire};
 use service::Frame;
 use std::env;
 
@@ -21,7 +22,7 @@ const FIGURES: Port = Port {
 };
 
 // What a load did: frames that were put, frames that were refused, and a sum over those that came out, in order.
-#[derive(Clone, Copy)]
+#[derive(Clone, Copy, Default)]
 struct Outcome {
     put: u64,
     refused: u64,
@@ -37,37 +38,27 @@ fn next(dice: u64) -> u64 {
 fn frame(dice: u64) -> Frame {
     Frame {
         flow: ((dice >> 40) % 64) as u8,
-        hop: 0,
         len: 900 + (dice >> 48) as u32 % 800,
-        origin: 0,
-        entry: 0,
-        due: 0,
+        ..Frame::default()
     }
 }
 
 // Takes from a port until none is said, and counts each frame into the sum.
 fn empty<C: Cabinet>(cabinet: &mut C, port: usize, before: u64) -> u64 {
     let mut sum = before;
+    // A line holds 32 frames; a `while let` would have to show that the cabinet ends.
     for _turn in 0..32u64 {
-        match cabinet.take(port) {
-            Some(frame) => {
-                let mark = frame.entry
-                    ^ frame.due.rotate_left(20)
-                    ^ u64::from(frame.flow).rotate_left(50);
-                sum = sum.wrapping_mul(31).wrapping_add(mark);
-            }
-            None => break,
-        }
+        let Some(frame) = cabinet.take(port) else {
+            break;
+        };
+        let mark = frame.entry ^ frame.due.rotate_left(20) ^ u64::from(frame.flow).rotate_left(50);
+        sum = sum.wrapping_mul(31).wrapping_add(mark);
     }
     sum
 }
 
 fn load<C: Cabinet>(cabinet: &mut C, slots: u64) -> Outcome {
-    let mut outcome = Outcome {
-        put: 0,
-        refused: 0,
-        sum: 0,
-    };
+    let mut outcome = Outcome::default();
     let mut dice = 1;
     for _slot in 0..slots {
         dice = next(dice);
@@ -83,26 +74,10 @@ fn load<C: Cabinet>(cabinet: &mut C, slots: u64) -> Outcome {
     outcome
 }
 
-fn latest(slots: u64) -> Outcome {
-    let mut cabinet = Latest::new();
+// The load on a cabinet whose ports all have this of their kind.
+fn loaded<K: Kind>(slots: u64, mut cabinet: Table<K>, own: K) -> Outcome {
     for _port in 0..PORTS {
-        let _ = cabinet.add_port(FIGURES);
-    }
-    load(&mut cabinet, slots)
-}
-
-fn gathering(slots: u64) -> Outcome {
-    let mut cabinet = Gathering::new();
-    for _port in 0..PORTS {
-        let _ = cabinet.add_port(FIGURES, 8);
-    }
-    load(&mut cabinet, slots)
-}
-
-fn prompt(slots: u64) -> Outcome {
-    let mut cabinet = Prompt::new();
-    for _port in 0..PORTS {
-        let _ = cabinet.add_port(FIGURES, 250, 10);
+        let _ = cabinet.add_port(FIGURES, own);
     }
     load(&mut cabinet, slots)
 }
@@ -115,9 +90,9 @@ fn main(rt: HostRuntime) -> anyhow::Result<()> {
     let slots: u64 = first.as_str().parse()?;
     for word in words {
         let outcome = match word.as_str() {
-            "latest" => latest(slots),
-            "gathering" => gathering(slots),
-            "prompt" => prompt(slots),
+            "latest" => loaded(slots, Latest::new(), Due),
+            "gathering" => loaded(slots, Gathering::new(), Period::new(8)),
+            "prompt" => loaded(slots, Prompt::new(), Wire::new(250, 10)),
             _ => return Err(anyhow!("no such kind")),
         };
         println!(rt;

@@ -4,10 +4,10 @@
 use another_make::{Counting, Hesitant};
 use cabinet::{Cabinet, CabinetFault, drain};
 use draft::Port;
-use gathering::Gathering;
-use latest::Latest;
+use gathering::{Gathering, Period};
+use latest::{Due, Latest};
 use line::Queue;
-use prompt::Prompt;
+use prompt::{Prompt, Wire};
 use refusal::Refusal;
 use service::Frame;
 use std::io;
@@ -23,11 +23,8 @@ const FIGURES: Port = Port {
 fn frame(flow: u8, len: u32) -> Frame {
     Frame {
         flow,
-        hop: 0,
         len,
-        origin: 0,
-        entry: 0,
-        due: 0,
+        ..Frame::default()
     }
 }
 
@@ -50,11 +47,9 @@ fn hand_over<C: Cabinet>(cabinet: &mut C, slots: &mut [u64; 3]) {
     if drain(cabinet, 0, &mut tray).is_none() {
         return;
     }
-    for i in 0..tray.len() {
-        if let Some(frame) = tray.get(i) {
-            if frame.flow < 3 {
-                slots[frame.flow as usize] = slot;
-            }
+    for frame in (0..tray.len()).filter_map(|i| tray.get(i)) {
+        if let Some(handed) = slots.get_mut(usize::from(frame.flow)) {
+            *handed = slot;
         }
     }
 }
@@ -71,7 +66,8 @@ fn example<C: Cabinet>(rt: &HostRuntime, name: &str, cabinet: &mut C) -> io::Res
         hand_over(cabinet, &mut slots);
         let _ = cabinet.advance();
     }
-    println!(rt; "{name}: {} {} {}", slots[0], slots[1], slots[2])
+    let [first, second, third] = slots;
+    println!(rt; "{name}: {first} {second} {third}")
 }
 
 // What put and advance refuse, in order.
@@ -96,22 +92,38 @@ fn refusals<C: Cabinet>(rt: &HostRuntime, cabinet: &mut C) -> io::Result<()> {
 
 fn main(rt: HostRuntime) -> io::Result<()> {
     let mut latest = Latest::new();
-    tell(&rt, "latest, a port", latest.add_port(FIGURES))?;
+    tell(&rt, "latest, a port", latest.add_port(FIGURES, Due))?;
     let mut again = latest;
     let mut hesitant = Hesitant::new(latest);
     example(&rt, "latest", &mut latest)?;
     tell(
         &rt,
         "latest, a port when not fresh",
-        latest.add_port(FIGURES),
+        latest.add_port(FIGURES, Due),
     )?;
     let mut prompt = Prompt::new();
-    tell(&rt, "prompt, C 99", prompt.add_port(FIGURES, 99, 0))?;
-    tell(&rt, "prompt, C 1000", prompt.add_port(FIGURES, 1000, 0))?;
+    tell(
+        &rt,
+        "prompt, C 99",
+        prompt.add_port(FIGURES, Wire::new(99, 0)),
+    )?;
+    tell(
+        &rt,
+        "prompt, C 1000",
+        prompt.add_port(FIGURES, Wire::new(1000, 0)),
+    )?;
     example(&rt, "prompt", &mut prompt)?;
     let mut gathering = Gathering::new();
-    tell(&rt, "gathering, G 7", gathering.add_port(FIGURES, 7))?;
-    tell(&rt, "gathering, G 6", gathering.add_port(FIGURES, 6))?;
+    tell(
+        &rt,
+        "gathering, G 7",
+        gathering.add_port(FIGURES, Period::new(7)),
+    )?;
+    tell(
+        &rt,
+        "gathering, G 6",
+        gathering.add_port(FIGURES, Period::new(6)),
+    )?;
     example(&rt, "gathering", &mut gathering)?;
     let mut counting = Counting::new();
     tell(&rt, "counting, a port", counting.add_port(FIGURES))?;

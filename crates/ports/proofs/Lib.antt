@@ -1,4 +1,5 @@
 pub mod Lines
+pub mod LaneSteps
 pub mod RowSteps
 pub mod TableSteps
 pub mod Additions

@@ -1,21 +1,12 @@
 -- Lines whose due slots rise: the first frame tells whether any is due.
-use Rattle.std.proofs.Common.{◌≡◌, ℕ, zero, suc, ◌+◌, ◌<◌, ◌≤◌, true, false, cond, ◌&&◌, leb, List, [], ◌∷◌, ◌++◌, length, get_or, drop, Some, None, refl, arith}
+use Rattle.std.proofs.Common.{◌≡◌, ℕ, ◌+◌, ◌<◌, ◌≤◌, true, false, ◌&&◌, ◌||◌, leb, List, [], ◌∷◌, ◌++◌, drop, refl, arith}
 use Rattle.std.proofs.lemmas.Bool.{and_from, and_parts, le-leb, leb-false, leb-true, lt-leb}
 use Rattle.service.specs.declared.frame.Frame.{Frame}
 use Rattle.cabinet.specs.Advances.{has_due}
 use Rattle.cabinet.specs.Model.{PortModel, frame_in}
-use Rattle.ports.specs.Rows.{rising}
-use Rattle.ports.specs.Tables.{first_due, first_stays}
-
-pub frame_at : (xs : List Frame) (i : ℕ) (d : Frame) → i < length xs → frame_in xs i ≡ Some (get_or xs i d)
-frame_at [] i d h = absurd (omega arith)
-frame_at (x ∷ xs) zero d h = refl
-frame_at (x ∷ xs) (suc i) d h = frame_at xs i d (omega arith)
-
-pub frame_past : (xs : List Frame) (i : ℕ) → length xs ≤ i → frame_in xs i ≡ None
-frame_past [] i h = refl
-frame_past (x ∷ xs) zero h = absurd (omega arith)
-frame_past (x ∷ xs) (suc i) h = frame_past xs i (omega arith)
+use Rattle.cabinet.specs.Takes.{passes}
+use Rattle.ports.specs.Lanes.{rising}
+use Rattle.ports.specs.Kinds.{first_stays}
 
 rising_parts : (stay low : ℕ) (x : Frame) (xs : List Frame) (top : ℕ) → rising stay low (x ∷ xs) top ≡ true → (low ≤ x.due) × (x.entry + stay ≤ x.due) × (rising stay x.due xs top ≡ true)
 rising_parts stay low x xs top r =
@@ -37,11 +28,11 @@ none_due stay low (x ∷ xs) top s r h =
     rw (lt-leb x.due s later) (none_due stay x.due xs top s a.2 later)
 
 -- the first frame decides
-pub first_decides : (stay low : ℕ) (xs : List Frame) (top s : ℕ) → rising stay low xs top ≡ true → has_due s xs ≡ first_due s (frame_in xs 0)
+pub first_decides : (stay low : ℕ) (xs : List Frame) (top s : ℕ) → rising stay low xs top ≡ true → has_due s xs ≡ passes (λ x. leb x.due s) (frame_in xs 0)
 first_decides stay low [] top s r = refl
 first_decides stay low (x ∷ xs) top s r =
     let a = rising_parts stay low x xs top r in
-    elim (leb x.due s) as (λ v. leb x.due s ≡ v → cond v true (has_due s xs) ≡ v) [
+    elim (leb x.due s) as (λ v. leb x.due s ≡ v → v || has_due s xs ≡ v) [
       | true ↦ λ e. refl
       | false ↦ λ e. none_due stay x.due xs top s a.2 (leb-false x.due s e)
     ] refl

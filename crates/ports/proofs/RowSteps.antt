@@ -1,81 +1,30 @@
--- What put and take make of a row.
-use Rattle.std.proofs.Common.{◌≡◌, ℕ, ◌+◌, ◌-◌, ◌*◌, ◌<◌, ◌≤◌, true, leb, [], ◌∷◌, ◌++◌, length, get_or, drop, set, Some, Ok, Err, sym, ap, ◌∙◌, subst, arith}
-use Rattle.std.proofs.lemmas.Bool.{and_parts, le-leb, le-ltb, leb-true, lt-leb, lt-ltb}
-use Rattle.rounding.proofs.Ceilings.{up_rises, up_shifts}
-use Rattle.draft.specs.declared.port.Port.{Port}
-use Rattle.line.proofs.Turns.{get_or_turned, length_turned, turned_push, turned_take}
-use Rattle.line.specs.Ring.{placed, turned}
-use Rattle.plan.proofs.Keeps.{port_kept}
-use Rattle.plan.specs.Checks.{figures_fit, stay_fits}
-use Rattle.plan.specs.Limits.{PortKept}
-use Rattle.service.specs.Entries.{due_by, finish_after, length_fits}
+-- What the first frame of a row tells, and what the kind keeps.
+use Rattle.std.proofs.Common.{◌≡◌, ℕ, Bool, leb, Some, sym, subst}
+use Rattle.service.specs.Entries.{due_by}
 use Rattle.service.specs.declared.frame.Frame.{Frame}
+use Rattle.cabinet.specs.Advances.{has_due}
 use Rattle.cabinet.specs.Model.{PortModel, frame_in}
-use Rattle.cabinet.specs.Puts.{line_answer}
-use Rattle.cabinet.specs.declared.fault.CabinetFault.TheVariants.{Finish, Full}
-use Rattle.ports.specs.Rows.{Filled, Fits, Rises, Sound, pushed, rising, row_port, stamped}
+use Rattle.cabinet.specs.Takes.{passes}
+use Rattle.cabinet.proofs.Decisions.{front}
+use Rattle.ports.specs.Kinds.{Leads, first_stays}
+use Rattle.ports.specs.Rows.{Whole, row_port}
 use Rattle.ports.specs.declared.row.Row.{Row}
-use Rattle.ports.proofs.Lines.{frame_at, rising_push, rising_rest}
+use Rattle.ports.specs.Laws.{lane_well}
+use Rattle.ports.proofs.Lines.{first_decides, first_patient}
 
-pub row_kept : (w : Row) → Fits w → PortKept w.figures
-row_kept w e =
-    let t = and_parts (figures_fit w.figures) (stay_fits w.figures) e in port_kept w.figures t.0 t.1
+module _ {K : Type 0} (keeps : K → PortModel → Bool) (w : Row K) (o : Whole keeps w) where
+  pub first_owes : (slot : ℕ) → has_due slot (row_port w).line ≡ passes (λ x. leb x.due slot) (frame_in (row_port w).line 0)
+  first_owes slot =
+      first_decides w.lane.figures.stay 0 (row_port w).line (due_by w.lane.figures w.lane.finish) slot o.sound.rises
 
--- the port is done with a frame that enters no earlier than its least stay after the entry slot
-due_patient : (q : Port) (slot finish n : ℕ) → PortKept q → q.shortest ≤ n → slot + q.stay ≤ due_by q (finish_after q slot finish n)
-due_patient q slot finish n k h =
-    let a = up_shifts slot q.shortest q.rate k.rate_least in
-    let b = up_rises (slot * q.rate + q.shortest) (finish_after q slot finish n) q.rate (omega arith) in
-    omega (arith, a, b, k.stay_most)
+  pub first_stayed : first_stays (row_port w) (frame_in (row_port w).line 0)
+  first_stayed = first_patient (row_port w) 0 (due_by w.lane.figures w.lane.finish) o.sound.rises
 
--- and no earlier than with the frames before it
-due_rises : (q : Port) (slot finish n : ℕ) → due_by q finish ≤ due_by q (finish_after q slot finish n)
-due_rises q slot finish n = let a = up_rises finish (finish_after q slot finish n) q.rate (omega arith) in omega arith
-
-pub line_long : (w : Row) → Filled w → length (row_port w).line ≡ w.waiting
-line_long w h = length_turned w.frames w.first w.waiting (omega arith) (omega arith)
-
--- the i-th frame stands at its place
-pub line_at : (w : Row) (i : ℕ) (d : Frame) → Filled w → i < w.waiting → frame_in (row_port w).line i ≡ Some (get_or w.frames (placed 32 w.first i) d)
-line_at w i d h l =
-    frame_at (row_port w).line i d (rw (line_long w h) l)
-    ∙ ap Some (get_or_turned w.frames w.first w.waiting i d (omega arith) l (omega arith) ∙ ap (λ n. get_or w.frames (placed n w.first i) d) h.3)
-
--- one frame more, written at the place behind the last
-pub line_push : (w : Row) (x : Frame) (at : ℕ) → Filled w → w.waiting < 32 → at ≡ placed 32 w.first w.waiting → turned (set w.frames at x) w.first (w.waiting + 1) ≡ (row_port w).line ++ x ∷ []
-line_push w x at h l e =
-    let p : at ≡ placed (length w.frames) w.first w.waiting = e ∙ ap (λ n. placed n w.first w.waiting) (sym h.3) in
-    ap (λ i. turned (set w.frames i x) w.first (w.waiting + 1)) p ∙ turned_push w.frames w.first w.waiting x (omega arith) (omega arith)
-
--- the first frame gone: the others lie behind its place
-pub line_rest : (w : Row) (at : ℕ) → Filled w → 0 < w.waiting → at ≡ placed 32 w.first 0 → (d : Frame) → drop 1 (row_port w).line ≡ turned w.frames (at + 1) (w.waiting - 1)
-line_rest w at h l e d =
-    let p : placed (length w.frames) w.first 0 ≡ at = ap (λ n. placed n w.first 0) h.3 ∙ sym e in
-    ap (drop 1) (turned_take w.frames w.first w.waiting d (omega arith) l (omega arith))
-    ∙ ap (λ i. turned w.frames (i + 1) (w.waiting - 1)) p
-
--- a frame that entered keeps the line rising
-pub put_rises : (w v : Row) (slot finish : ℕ) (x : Frame) → Sound w → length_fits w.figures x.len ≡ true → finish ≡ finish_after w.figures slot w.finish x.len
-    → row_port v ≡ pushed finish (stamped w.figures slot finish x) (row_port w) → Rises v
-put_rises w v slot finish x o h e q =
-    let k = row_kept w o.figures in
-    let n : w.figures.shortest ≤ x.len = leb-true w.figures.shortest x.len (and_parts (leb w.figures.shortest x.len) (leb x.len 100000) h).0 in
-    let r = rising_push w.figures.stay 0 (row_port w).line (due_by w.figures w.finish) (stamped w.figures slot finish x) o.rises
-    (rw e (due_rises w.figures slot w.finish x.len)) (rw e (due_patient w.figures slot w.finish x.len k n)) in
-    subst (λ (z : PortModel). rising z.figures.stay 0 z.line (due_by z.figures z.finish) ≡ true) (sym q) r
-
--- so does the first frame that leaves
-pub take_rises : (w v : Row) → Rises w → v.figures ≡ w.figures → v.finish ≡ w.finish → (row_port v).line ≡ drop 1 (row_port w).line → Rises v
-take_rises w v r a b e =
-    rw (a, b, e) (rising_rest w.figures.stay (row_port w).line (due_by w.figures w.finish) r)
-
--- the answers of a port: full, past its finish, and none of these
-module _ (slot p : ℕ) (q : PortModel) (x : Frame) (fits : length_fits q.figures x.len ≡ true) where
-  pub said_full : 32 ≤ length q.line → Err (Full p) ≡ line_answer slot p q x
-  said_full h = rw (fits, le-ltb (length q.line) 32 h)
-
-  pub said_finish : length q.line < 32 → 20000000000000000 < finish_after q.figures slot q.finish x.len → Err (Finish p) ≡ line_answer slot p q x
-  said_finish h l = rw (fits, lt-ltb (length q.line) 32 h, lt-leb (finish_after q.figures slot q.finish x.len) 20000000000000000 l)
-
-  pub said_ok : length q.line < 32 → finish_after q.figures slot q.finish x.len ≤ 20000000000000000 → Ok tt ≡ line_answer slot p q x
-  said_ok h l = rw (fits, lt-ltb (length q.line) 32 h, le-leb (finish_after q.figures slot q.finish x.len) 20000000000000000 l)
+  pub leads : (x : Frame) → Some x ≡ frame_in (row_port w).line 0 → Leads (keeps w.own) (row_port w) x
+  leads x e =
+      record {
+        well = lane_well w.lane o.sound;
+        kept = o.kept;
+        first = front (row_port w).line x e;
+        stays = subst (first_stays (row_port w)) (sym e) first_stayed;
+      }

@@ -1,62 +1,36 @@
--- One port as a cabinet keeps it: what it means, and what it keeps.
-use Rattle.std.specs.Prelude.{◌≡◌, ℕ, ◌+◌, ◌<◌, ◌≤◌, Bool, true, ◌&&◌, List, [], ◌∷◌, ◌++◌, length, replicate, Some, None, Option, nat_le, slice_index_or}
-use Rattle.draft.specs.Plans.{no_port}
+-- A row of a table: a port, and what the cabinet's kind keeps for it.
+use Rattle.std.specs.Prelude.{◌≡◌, ℕ, ◌<◌, Bool, true, List, slice_index_or}
 use Rattle.draft.specs.declared.port.Port.{Port}
-use Rattle.line.specs.Ring.{turned}
-use Rattle.plan.specs.Checks.{port_fits}
-use Rattle.service.specs.Entries.{due_by, no_frame}
-use Rattle.service.specs.declared.frame.Frame.{Frame}
-use Rattle.cabinet.specs.Model.{PortModel, cut}
+use Rattle.cabinet.specs.Model.{PortModel}
+use Rattle.ports.specs.Lanes.{Filled, Fits, Rises, Sound, blank_lane, lane_port}
 use Rattle.ports.specs.declared.row.Row.{Row}
 
--- what stands where there is no row
-abbrev pub no_row : Row
-no_row = record { figures = no_port; finish = 0; frames = []; first = 0; waiting = 0 }
+-- the port of a row
+abbrev pub row_port : {K : Type 0} → Row K → PortModel
+row_port w = lane_port w.lane
 
 -- a row of these figures into which nothing has been put
-abbrev pub blank_row : Port → Row
-blank_row q = record { figures = q; finish = 0; frames = replicate 32 no_frame; first = 0; waiting = 0 }
+abbrev pub blank_row : {K : Type 0} → Port → K → Row K
+blank_row q k = record { lane = blank_lane q; own = k }
 
--- what a row means: its line lies in the frames from the first on, going round at the end
-abbrev pub row_port : Row → PortModel
-row_port w = record { figures = w.figures; finish = w.finish; line = turned w.frames w.first w.waiting }
-
--- a frame with its entry slot, and with the due slot that the port's new finish gives it
-abbrev pub stamped : Port → ℕ → ℕ → Frame → Frame
-stamped q slot finish x =
-    record { flow = x.flow; hop = x.hop; len = x.len; origin = x.origin; entry = slot; due = due_by q finish }
-
--- a port with one frame more at the end of its line, and the finish that counts it
-abbrev pub pushed : ℕ → Frame → PortModel → PortModel
-pushed finish x q = record { figures = q.figures; finish = finish; line = q.line ++ x ∷ [] }
-
--- a port once it has given this answer
-abbrev pub left_by : Option Frame → PortModel → PortModel
-left_by None q = q
-left_by (Some x) q = cut 1 q
-
--- the figures keep every limit
-abbrev pub Fits : Row → Type 0
-Fits w = port_fits w.figures ≡ true
-
--- the finish keeps its limit, and the line lies within its places
-abbrev pub Filled : Row → Type 0
-Filled w = (w.finish ≤ 20000000000000000) × (w.waiting ≤ 32) × (w.first ≤ 32) × (length w.frames ≡ 32)
-
--- the due slots rise along the line, from low to top, and each frame has stayed long enough when it is due
-abbrev pub rising : ℕ → ℕ → List Frame → ℕ → Bool
-rising stay low [] top = nat_le low top
-rising stay low (x ∷ xs) top = nat_le low x.due && (nat_le (x.entry + stay) x.due && rising stay x.due xs top)
-
-abbrev pub Rises : Row → Type 0
-Rises w = rising w.figures.stay 0 (row_port w).line (due_by w.figures w.finish) ≡ true
+-- what the kind keeps, of the row
+abbrev pub KeptBy : {K : Type 0} → (K → PortModel → Bool) → Row K → Type 0
+KeptBy keeps w = keeps w.own (row_port w) ≡ true
 
 -- what every row in use keeps
-pub record Sound (w : Row) : Type 0 where
-  pub figures : Fits w
-  pub filled : Filled w
-  pub rises : Rises w
+pub record Whole {K : Type 0} (keeps : K → PortModel → Bool) (w : Row K) : Type 0 where
+  pub sound : Sound w.lane
+  pub kept : KeptBy keeps w
 
--- each of the first n rows
-abbrev pub Each : (Row → Type 0) → ℕ → List Row → Type 0
-Each P n rows = (k : ℕ) → k < n → P (slice_index_or rows k no_row)
+abbrev pub FitsRow : {K : Type 0} → Row K → Type 0
+FitsRow w = Fits w.lane
+
+abbrev pub FilledRow : {K : Type 0} → Row K → Type 0
+FilledRow w = Filled w.lane
+
+abbrev pub RisesRow : {K : Type 0} → Row K → Type 0
+RisesRow w = Rises w.lane
+
+-- each of the first n, whatever is taken for what stands past the end
+abbrev pub Each : {X : Type 0} → (X → Type 0) → ℕ → List X → Type 0
+Each P n xs = (k : ℕ) → k < n → (d : _) → P (slice_index_or xs k d)

@@ -1,6 +1,6 @@
 // What a port makes of a frame that enters it.
 ghost use Rattle.std.specs.Prelude.{◌≡◌, ◌*◌, ◌≤◌};
-ghost use Rattle.ports.specs.Rows.{stamped};
+ghost use Rattle.ports.specs.Lanes.{stamped};
 ghost use Rattle.service.specs.Entries.{due_by, finish_after, length_fits};
 
 use draft::Port;

@@ -2,8 +2,11 @@
 #![tactic(auto)]
 
 mod entry;
+pub mod kind;
+mod lane;
 pub mod limits;
 pub mod row;
 pub mod table;
 
+pub use kind::Kind;
 pub use table::Table;

@@ -1,118 +1,79 @@
-// One port as a cabinet keeps it: its figures, its finish and its line.
-ghost use Rattle.std.specs.Prelude.{◌≡◌, ◌<◌, ◌≤◌, is_ok, if◌then◌else◌};
+// A row of a table: a port, and what the cabinet's kind keeps for it.
+ghost use Rattle.std.specs.Prelude.{◌≡◌, ◌≤◌, true, is_ok, if◌then◌else◌};
 ghost use Rattle.cabinet.specs.Model.{frame_in};
 ghost use Rattle.cabinet.specs.Puts.{line_answer, lined};
-ghost use Rattle.line.specs.Ring.{placed};
-ghost use Rattle.ports.specs.Rows.{Filled, Sound, blank_row, left_by, pushed, row_port};
+ghost use Rattle.cabinet.specs.Advances.{has_due};
+ghost use Rattle.cabinet.specs.Takes.{Timely};
+ghost use Rattle.ports.specs.Kinds.{own_after, word};
+ghost use Rattle.ports.specs.Lanes.{left_by};
+ghost use Rattle.ports.specs.Rows.{Whole, blank_row, row_port};
 
-use crate::entry::{finish_after, length_fits, stamped};
-use crate::limits::MOST_LINE;
+use crate::kind::Kind;
+use crate::lane::Lane;
 use cabinet::CabinetFault;
 use draft::Port;
 use service::Frame;
-use service::limits::MOST_FINISH;
 
-// A port; its line lies in `frames` from `first` on, going round at the end.
+// The port, and the kind's own beside it.
 #[derive(Clone, Copy)]
-pub struct Row {
-    pub(crate) figures: Port,
-    pub(crate) finish: u64,
-    frames: [Frame; MOST_LINE],
-    first: usize,
-    pub(crate) waiting: usize,
+pub struct Row<K> {
+    pub(crate) lane: Lane,
+    pub(crate) own: K,
 }
 
-impl Row {
+impl<K: Kind> Row<K> {
     // A port into which nothing has been put.
-    pub(crate) fn new(figures: Port) -> Row
-        ensures { result ≡ blank_row figures }
+    pub(crate) fn new(figures: Port, own: K) -> Row<K>
+        ensures { result ≡ blank_row figures own }
     {
-        let frame = Frame {
-            flow: 0,
-            hop: 0,
-            len: 0,
-            origin: 0,
-            entry: 0,
-            due: 0,
-        };
         Row {
-            figures,
-            finish: 0,
-            frames: [frame; MOST_LINE],
-            first: 0,
-            waiting: 0,
+            lane: Lane::new(figures),
+            own,
         }
     }
 
-    // The place of the i-th frame, going round at the end.
-    fn place(&self, i: usize) -> usize
-        requires { (Filled self.now) × (i < 32) }
-        ensures value { result ≡ placed 32 self.now.first i }
-        ensures within { result < 32 }
+    // Whether the first frame of the line is due by this slot: no other is due before it.
+    pub(crate) fn owes(&self, slot: u64) -> bool
+        requires { Whole K.keeps self.now }
+        ensures { result ≡ has_due slot (row_port self.now).line }
     {
-        let left = MOST_LINE - self.first;
-        if i < left { self.first + i } else { i - left }
+        self.lane.frame(0).is_some_and(|frame| frame.due <= slot)
     }
 
-    // The i-th frame that waits.
-    pub(crate) fn frame(&self, i: usize) -> Option<Frame>
-        requires { Filled self.now }
-        ensures { result ≡ frame_in (row_port self.now).line i }
+    // Whether the kind hands over the first frame of the line in this slot.
+    pub(crate) fn ready(&self, slot: u64) -> bool
+        requires { Whole K.keeps self.now }
+        ensures value { result ≡ word K.ready slot (row_port self.now) self.now.own }
+        ensures timely { Timely slot (row_port self.now) result }
     {
-        if i < self.waiting {
-            Some(self.frames[self.place(i)])
-        } else {
-            None
+        let stay = self.lane.figures.stay;
+        match self.lane.frame(0) {
+            Some(frame) => self.own.ready(slot, stay, frame),
+            None => false,
         }
-    }
-
-    // One frame more at the end of the line, which has room, and the finish that counts it.
-    fn push(&mut self, finish: u64, frame: Frame)
-        requires { (Filled self.old) × ((self.old.waiting < 32) × (finish ≤ 20000000000000000)) }
-        ensures after { row_port self.new ≡ pushed finish frame (row_port self.old) }
-        ensures filled { Filled self.new }
-    {
-        let at = self.place(self.waiting);
-        self.frames[at] = frame;
-        self.finish = finish;
-        self.waiting += 1;
     }
 
     // Enters a frame in this slot, at the port of this number.
     pub(crate) fn put(&mut self, slot: u64, port: usize, frame: Frame) -> Result<(), CabinetFault>
-        requires { (slot ≤ 1000000000000) × (Sound self.old) }
+        requires { (slot ≤ 1000000000000) × Whole K.keeps self.old }
         ensures answer { result ≡ line_answer slot port (row_port self.old) frame }
         ensures after { row_port self.new ≡ (if is_ok result then lined slot (row_port self.old) frame else row_port self.old) }
-        ensures sound { Sound self.new }
+        ensures own { self.new.own ≡ self.old.own }
+        ensures whole { Whole K.keeps self.new }
     {
-        if !length_fits(self.figures, frame.len) {
-            return Err(CabinetFault::Length(port));
-        }
-        if self.waiting >= MOST_LINE {
-            return Err(CabinetFault::Full(port));
-        }
-        let finish = finish_after(self.figures, slot, self.finish, frame.len);
-        if finish > MOST_FINISH {
-            return Err(CabinetFault::Finish(port));
-        }
-        self.push(finish, stamped(self.figures, slot, finish, frame));
-        Ok(())
+        self.lane.put(slot, port, frame)
     }
 
-    // The first frame, which leaves the line.
+    // The first frame, which leaves the line; the kind counts it.
     pub(crate) fn take(&mut self) -> Option<Frame>
-        requires { Sound self.old }
+        requires { Whole K.keeps self.old }
         ensures answer { result ≡ frame_in (row_port self.old).line 0 }
         ensures after { row_port self.new ≡ left_by result (row_port self.old) }
-        ensures sound { Sound self.new }
+        ensures own { self.new.own ≡ own_after K.handed result self.old.own }
+        ensures whole { Whole K.keeps self.new }
     {
-        if self.waiting == 0 {
-            return None;
-        }
-        let at = self.place(0);
-        let frame = self.frames[at];
-        self.first = at + 1;
-        self.waiting -= 1;
+        let frame = self.lane.take()?;
+        self.own.hand(frame);
         Some(frame)
     }
 }

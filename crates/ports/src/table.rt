@@ -1,25 +1,39 @@
 // The table of a cabinet's ports, and the slot that they are in.
 ghost use Rattle.std.specs.Prelude.{◌≡◌, ◌≤◌, length};
-ghost use Rattle.ports.specs.Rows.{Each, Filled, Fits, Rises};
+ghost use Rattle.ports.specs.Rows.{Each, FilledRow, FitsRow, KeptBy, RisesRow};
 
+use crate::kind::Kind;
 use crate::limits::MOST_TABLE;
 use crate::row::Row;
+use std::alloc::AllocError;
 
 mod adding;
 mod changes;
 mod questions;
-mod size;
+mod serving;
 
-// Up to eight ports, of which the first `count` rows are in use.
-#[derive(Clone, Copy)]
-pub struct Table {
-    rows: [Row; MOST_TABLE],
+// A cabinet of one kind: up to eight ports, of which the first `count` rows are in use.
+pub struct Table<K: Kind> {
+    rows: [Row<K>; MOST_TABLE],
     count: usize,
     slot: u64,
     ghost sized: { length rows ≡ 8 },
     ghost few: { count ≤ 8 },
     ghost soon: { slot ≤ 1000000000000 },
-    ghost figures: { Each Fits count rows },
-    ghost filled: { Each Filled count rows },
-    ghost rises: { Each Rises count rows },
+    ghost figures: { Each FitsRow count rows },
+    ghost filled: { Each FilledRow count rows },
+    ghost rises: { Each RisesRow count rows },
+    ghost kept: { Each (KeptBy K.keeps) count rows },
+}
+
+impl<K: Kind> Copy for Table<K> {}
+
+impl<K: Kind> Clone for Table<K> {
+    ghost is_clone = { λ x y. y ≡ x };
+
+    ghost is_infallible = { λ x. Unit {0} };
+
+    fn clone(&self) -> Result<Table<K>, AllocError> {
+        Ok(*self)
+    }
 }

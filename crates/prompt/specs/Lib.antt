@@ -1,2 +1,3 @@
 pub mod Wires
-pub mod Prompts
+pub mod Paces
+pub mod WireLaws

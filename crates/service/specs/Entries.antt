@@ -1,5 +1,5 @@
 -- What a port makes of a frame that enters its line.
-use Rattle.std.specs.Prelude.{ℕ, ◌+◌, ◌*◌, max, Bool, ◌&&◌, leb, ltb}
+use Rattle.std.specs.Prelude.{ℕ, ◌+◌, ◌*◌, max, Bool, ◌&&◌, leb, ltb, nat_le}
 use Rattle.rounding.specs.Quotients.{up}
 use Rattle.draft.specs.declared.port.Port.{Port}
 use Rattle.service.specs.declared.frame.Frame.{Frame}
@@ -27,6 +27,10 @@ entered q slot finish x =
       entry = slot;
       due = due_by q (finish_after q slot finish x.len);
     }
+
+-- a frame has stayed so many slots by this slot
+abbrev pub has_stayed : ℕ → ℕ → Frame → Bool
+has_stayed stay slot x = nat_le (x.entry + stay) slot
 
 -- a length that the port takes
 abbrev pub length_fits : Port → ℕ → Bool

@@ -5,19 +5,20 @@ ghost use Rattle.ports.specs.Tables.{empty_model};
 ghost use Rattle.another_make.specs.Countings.{counting_model};
 
 use super::Counting;
+use crate::thirds::Thirds;
 use cabinet::CabinetFault;
 use draft::Port;
-use ports::Table;
+use latest::{Due, Latest};
 
 impl Counting {
     // No port, in slot 0, and not asked yet.
     pub fn new() -> Counting
         ensures model { counting_model result ≡ empty_model }
-        ensures asked { result.asked ≡ 0 }
+        ensures asked { result.thirds.asked ≡ 0 }
     {
         Counting {
-            table: Table::new(),
-            asked: 0,
+            table: Latest::new(),
+            thirds: Thirds::new(),
         }
     }
 
@@ -25,8 +26,8 @@ impl Counting {
     pub fn add_port(&mut self, figures: Port) -> Result<(), CabinetFault>
         ensures answer { result ≡ add_answer (counting_model self.old) figures true }
         ensures after { counting_model self.new ≡ add_after (counting_model self.old) figures true }
-        ensures asked { self.new.asked ≡ self.old.asked }
+        ensures asked { self.new.thirds ≡ self.old.thirds }
     {
-        self.table.add(figures, true)
+        self.table.add_port(figures, Due)
     }
 }

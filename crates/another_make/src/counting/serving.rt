@@ -1,41 +1,38 @@
 // The service of the counting make.
 ghost use Rattle.std.specs.Prelude.{◌+◌, ◌<◌, ◌≤◌, false, true, ◌≡◌};
+ghost use Rattle.cabinet.specs.Model.{port_in};
 ghost use Rattle.cabinet.specs.Takes.{Timely};
 ghost use Rattle.another_make.specs.Countings.{counting_model};
-ghost use Rattle.ports.proofs.TableSteps.{table_well};
+ghost use Rattle.ports.specs.Laws.{table_well};
 
 use super::Counting;
 use cabinet::{Cabinet, CabinetFault};
 use draft::Port;
 use service::Frame;
 
-// Where the counter stands after one question more: at 0 after every third.
-fn next(asked: u8) -> u8 {
-    if asked >= 2 { 0 } else { asked + 1 }
-}
-
-// Whether a frame is handed over at this count, in this slot: after its least stay, and no later than it is due.
-fn lets_go(asked: u8, slot: u64, stay: u32, frame: Frame) -> bool
+// Whether a frame is handed over in this slot: after its least stay, and no later than it is due.
+fn lets_go(third: bool, slot: u64, stay: u32, frame: Frame) -> bool
     requires { frame.entry + stay ≤ frame.due }
     ensures stayed { result ≡ true → frame.entry + stay ≤ slot }
     ensures later { result ≡ false → slot < frame.due }
 {
-    (asked == 2 && frame.entry + u64::from(stay) <= slot) || frame.due <= slot
+    (third && frame.has_stayed(stay, slot)) || frame.due <= slot
 }
 
 impl Counting {
     // Whether the first frame of a line is handed over.
-    fn ready(&self, port: usize) -> bool
-        ensures { Timely (counting_model self.now) port result }
+    fn ready(&self, third: bool, port: usize) -> bool
+        ensures { Timely (counting_model self.now).slot (port_in (counting_model self.now) port) result }
     {
         let stay = self.table.figures(port).stay;
         match self.table.first(port) {
-            Some(frame) => lets_go(self.asked, self.table.slot(), stay, frame),
+            Some(frame) => lets_go(third, self.table.slot(), stay, frame),
             None => false,
         }
     }
 }
 
+// The questions are those of its table, asked one by one: a trait is not handed on as a whole.
 impl Cabinet for Counting {
     ghost model = { counting_model };
 
@@ -65,26 +62,14 @@ impl Cabinet for Counting {
         self.table.frame(port, i)
     }
 
-    fn fresh(&self) -> bool {
-        self.table.fresh()
-    }
-
-    fn owes(&self, port: usize) -> bool {
-        self.table.owes(port)
-    }
-
-    fn owed(&self) -> Option<usize> {
-        self.table.owed()
-    }
-
     fn put(&mut self, port: usize, frame: Frame) -> Result<(), CabinetFault> {
         self.table.put(port, frame)
     }
 
     fn take(&mut self, port: usize) -> Option<Frame> {
-        let ready = self.ready(port);
-        self.asked = next(self.asked);
-        self.table.take(port, ready)
+        let third = self.thirds.count();
+        let ready = self.ready(third, port);
+        self.table.hand_over(port, ready)
     }
 
     fn advance(&mut self) -> Result<(), CabinetFault> {

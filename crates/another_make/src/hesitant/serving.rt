@@ -2,6 +2,7 @@
 ghost use Rattle.std.specs.Prelude.{◌≡◌};
 
 use super::Hesitant;
+use crate::thirds::Thirds;
 use cabinet::{Cabinet, CabinetFault};
 use draft::Port;
 use service::Frame;
@@ -11,15 +12,14 @@ impl<C: Cabinet> Hesitant<C> {
     pub fn new(inside: C) -> Hesitant<C>
         ensures { C.Cabinet.model result.inside ≡ C.Cabinet.model inside }
     {
-        Hesitant { inside, asked: 0 }
+        Hesitant {
+            inside,
+            thirds: Thirds::new(),
+        }
     }
 }
 
-// Where the counter stands after one question more: at 0 after every third.
-fn next(asked: u8) -> u8 {
-    if asked >= 2 { 0 } else { asked + 1 }
-}
-
+// The questions are those of the one inside, asked one by one: a trait is not handed on as a whole.
 impl<C: Cabinet> Cabinet for Hesitant<C> {
     ghost model = { λ h. C.Cabinet.model h.inside };
 
@@ -54,15 +54,12 @@ impl<C: Cabinet> Cabinet for Hesitant<C> {
     }
 
     fn take(&mut self, port: usize) -> Option<Frame> {
-        let turn = self.asked == 2;
-        self.asked = next(self.asked);
-        if turn {
-            return self.inside.take(port);
+        let third = self.thirds.count();
+        if third || self.inside.owes(port) {
+            self.inside.take(port)
+        } else {
+            None
         }
-        if self.inside.owes(port) {
-            return self.inside.take(port);
-        }
-        None
     }
 
     fn advance(&mut self) -> Result<(), CabinetFault> {

@@ -1,41 +1,17 @@
-use Rattle.std.proofs.Common.{◌≡◌, ◌<◌, ◌≤◌, true, false, ◌≢◌, length, sym, ◌∙◌, arith}
-use Rattle.std.proofs.lemmas.List.{drop_all}
-use Rattle.std.proofs.lemmas.Bool.Decides.{nat_tests}
+use Rattle.std.proofs.Common.{◌≡◌, ◌-◌, length, rules, refl, ap, sym, ◌∙◌, zero-add, arith}
+use borrow.Author.Tests.{tests}
+use Rattle.std.proofs.lemmas.Iterator.{YieldsList-from_range}
+use Rattle.std.proofs.lemmas.Iterator.Search.{all_from_yields_List}
 use Rattle.cabinet.specs.Fresh.{idle}
-use Rattle.cabinet.specs.Model.{port_in}
-use Rattle.cabinet.proofs.Searches.{idle_stop, idle_on}
+use Rattle.cabinet.specs.Model.{port_in, vacant}
+use Rattle.cabinet.proofs.Searches.{all_by_number}
 use Rattle.cabinet.proofs.cabinet.Cabinet.fresh.Goals as goal
 
-pub returns-then-finish-ne0 : goal.returns-then-finish-ne0
-returns-then-finish-ne0 g c =
+pub returns-then-slot-eq0 : goal.returns-then-slot-eq0
+returns-then-slot-eq0 g c =
     let m = g.Self.Cabinet.model c.args.self.now in
-    let q = port_in m c.loop-port.port in
-    let h : c.loop-port.port < length m.ports = omega (arith, c.ports-port-end.ensures, c.loop-port-test.true) in
-    let d : q.finish ≢ 0 = λ e. c.if-finish-ne0.true (c.finish.ensures ∙ e) in
-    let i : idle q ≡ false = grind (arith, nat_tests) in
-    sym (c.loop-port.invariant ∙ idle_stop m.ports c.loop-port.port h i)
-
-pub returns-then-waiting-ne0 : goal.returns-then-waiting-ne0
-returns-then-waiting-ne0 g c =
-    let m = g.Self.Cabinet.model c.args.self.now in
-    let q = port_in m c.loop-port.port in
-    let h : c.loop-port.port < length m.ports = omega (arith, c.ports-port-end.ensures, c.loop-port-test.true) in
-    let d : length q.line ≢ 0 = λ e. c.if-waiting-ne0.true (c.waiting.ensures ∙ e) in
-    let i : idle q ≡ false = grind (arith, nat_tests) in
-    sym (c.loop-port.invariant ∙ idle_stop m.ports c.loop-port.port h i)
-
-pub loop-port-preserved : goal.loop-port-preserved
-loop-port-preserved g c =
-    let m = g.Self.Cabinet.model c.args.self.now in
-    let q = port_in m c.loop-port.port in
-    let h : c.loop-port.port < length m.ports = omega (arith, c.ports-port-end.ensures, c.loop-port-test.true) in
-    let d : length q.line ≡ 0 = sym c.waiting.ensures ∙ c.if-waiting-ne0.false in
-    let e : q.finish ≡ 0 = sym c.finish.ensures ∙ c.if-finish-ne0.false in
-    let i : idle q ≡ true = rw (e, d) in
-    c.loop-port.invariant ∙ idle_on m.ports c.loop-port.port h i
-
-pub returns : goal.returns
-returns g c =
-    let m = g.Self.Cabinet.model c.args.self.now in
-    let h : length m.ports ≤ c.loop-port.port = omega (arith, c.ports-port-end.ensures, c.loop-port-test.false) in
-    sym (c.loop-port.invariant ∙ (rw (drop_all c.loop-port.port m.ports h)))
+    let n : c.ports.result - 0 ≡ length m.ports = omega (arith, c.ports.ensures) in
+    let e : m.slot ≡ 0 = sym c.slot.ensures ∙ c.if-slot-eq0.true in
+    rw e
+    (all_from_yields_List (λ p. idle (port_in m p)) _ _ c.all.result c.all.ensures.ran (YieldsList-from_range 0 c.ports.result (length m.ports) refl n) (λ x b q k. search (rules, tests))
+    ∙ all_by_number idle (λ p. idle (port_in m p)) vacant m.ports 0 (λ i l. ap (λ k. idle (port_in m k)) (zero-add i)))

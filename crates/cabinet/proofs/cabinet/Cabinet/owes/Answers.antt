@@ -1,31 +1,19 @@
-use Rattle.std.proofs.Common.{◌<◌, ◌≤◌, length, sym, ◌∙◌, arith}
-use Rattle.std.proofs.lemmas.Bool.{le-leb, lt-leb}
-use Rattle.std.proofs.lemmas.List.{drop_all}
-use Rattle.cabinet.specs.Model.{port_in}
-use Rattle.cabinet.proofs.Searches.{has_due_more, has_due_none}
+use Rattle.std.proofs.Common.{◌≡◌, ◌-◌, leb, length, rules, refl, ap, ◌∙◌, zero-add, arith}
+use borrow.Author.Tests.{tests}
+use Rattle.std.proofs.lemmas.Iterator.{YieldsList-from_range}
+use Rattle.std.proofs.lemmas.Iterator.Search.{any_from_yields_List}
+use Rattle.service.specs.Entries.{no_frame}
+use Rattle.service.specs.declared.frame.Frame.{Frame}
+use Rattle.cabinet.specs.Model.{frame_in, port_in}
+use Rattle.cabinet.specs.Takes.{passes}
+use Rattle.cabinet.proofs.Searches.{any_by_number, passes_at}
 use Rattle.cabinet.proofs.cabinet.Cabinet.owes.Goals as goal
-
-pub returns-then-frame-slot : goal.returns-then-frame-slot
-returns-then-frame-slot g c =
-    let m = g.Self.Cabinet.model c.args.self.now in
-    let h : c.in-Some.frame.due ≤ m.slot = omega (arith, c.slot-slot.ensures, c.if-frame-slot.true) in
-    sym (c.loop-i.invariant ∙ has_due_more m.slot (port_in m c.args.port).line c.loop-i.i c.in-Some.frame c.in-Some.ensures
-    ∙ (rw (le-leb c.in-Some.frame.due m.slot h)))
-
-pub returns-in_default : goal.returns-in_default
-returns-in_default g c =
-    let m = g.Self.Cabinet.model c.args.self.now in
-    sym (c.loop-i.invariant ∙ has_due_none m.slot (port_in m c.args.port).line c.loop-i.i c.in_default.ensures)
-
-pub loop-i-preserved : goal.loop-i-preserved
-loop-i-preserved g c =
-    let m = g.Self.Cabinet.model c.args.self.now in
-    let h : m.slot < c.in-Some.frame.due = omega (arith, c.slot-slot.ensures, c.if-frame-slot.false) in
-    c.loop-i.invariant ∙ has_due_more m.slot (port_in m c.args.port).line c.loop-i.i c.in-Some.frame c.in-Some.ensures
-    ∙ (rw (lt-leb c.in-Some.frame.due m.slot h))
 
 pub returns : goal.returns
 returns g c =
     let m = g.Self.Cabinet.model c.args.self.now in
-    let h : length (port_in m c.args.port).line ≤ c.loop-i.i = omega (arith, c.waiting-i-end.ensures, c.loop-i-test.false) in
-    sym (c.loop-i.invariant ∙ (rw (drop_all c.loop-i.i (port_in m c.args.port).line h)))
+    let xs = (port_in m c.args.port).line in
+    let n : c.waiting.result - 0 ≡ length xs = omega (arith, c.waiting.ensures) in
+    let due = λ (x : Frame). leb x.due m.slot in
+    any_from_yields_List (λ i. passes due (frame_in xs i)) _ _ c.any.result c.any.ensures.ran (YieldsList-from_range 0 c.waiting.result (length xs) refl n) (λ x b q k. search (rules, tests))
+    ∙ any_by_number due (λ i. passes due (frame_in xs i)) no_frame xs 0 (λ i l. ap (λ k. passes due (frame_in xs k)) (zero-add i) ∙ passes_at due xs i no_frame l)

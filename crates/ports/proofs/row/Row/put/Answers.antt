@@ -1,46 +1,28 @@
-use Rattle.std.proofs.Common.{◌≡◌, ℕ, ◌<◌, ◌≤◌, sym, refl, ap, ◌∙◌, subst}
-use Rattle.service.specs.declared.frame.Frame.{Frame}
+use Rattle.std.proofs.Common.{◌≡◌, Bool, true, false, cond, is_ok, refl, sym, subst}
 use Rattle.cabinet.specs.Model.{PortModel}
-use Rattle.ports.specs.Rows.{pushed, row_port, stamped}
-use Rattle.ports.proofs.RowSteps.{line_long, put_rises, said_finish, said_full, said_ok}
+use Rattle.cabinet.specs.Puts.{lined}
+use Rattle.ports.specs.Laws.{lane_well}
+use Rattle.ports.specs.Rows.{row_port}
 use Rattle.ports.proofs.row.Row.put.Goals as goal
 
-pub returns-then-self-ge-MOST_LINE : goal.returns-then-self-ge-MOST_LINE
-returns-then-self-ge-MOST_LINE c =
-    let w = c.args.self.now in
-    record {
-      answer = said_full c.args.slot c.args.port (row_port w) c.args.frame (sym c.if-not-length_fits.ensures) (rw (line_long w c.requires.1.filled) c.if-self-ge-MOST_LINE.true);
-      after = refl;
-      sound = c.requires.1;
-    }
-
-pub returns-then-finish-gt-MOST_FINISH : goal.returns-then-finish-gt-MOST_FINISH
-returns-then-finish-gt-MOST_FINISH c =
-    let w = c.args.self.now in
-    let past = subst (λ (n : ℕ). 20000000000000000 < n) c.finish_after-finish.ensures c.if-finish-gt-MOST_FINISH.true in
-    record {
-      answer = said_finish c.args.slot c.args.port (row_port w) c.args.frame (sym c.if-not-length_fits.ensures) (rw (line_long w c.requires.1.filled) c.if-self-ge-MOST_LINE.false) past;
-      after = refl;
-      sound = c.requires.1;
-    }
+-- kept by the port with the frame, and by the port as it was
+either : (keeps : PortModel → Bool) (b : Bool) (q v : PortModel) → keeps q ≡ true → keeps v ≡ true → keeps (cond b v q) ≡ true
+either keeps true q v a h = h
+either keeps false q v a h = a
 
 pub returns : goal.returns
-returns c =
+returns g c =
     let w = c.args.self.now in
+    let q = row_port w in
     let o = c.requires.1 in
-    let s = c.args.slot in
-    let x = c.args.frame in
-    let fits = sym c.if-not-length_fits.ensures in
-    let e = c.finish_after-finish.ensures in
-    let within = subst (λ (n : ℕ). n ≤ 20000000000000000) e c.if-finish-gt-MOST_FINISH.false in
-    let after = c.push.ensures.after ∙ ap (λ (y : Frame). pushed c.finish_after-finish.result y (row_port w)) c.stamped.ensures in
-    let kept : c.push.new.self.figures ≡ w.figures = ap (λ (q : PortModel). q.figures) after in
+    let keeps = g.K.Kind.keeps w.own in
+    let put = g.met.K.Kind.kept_put w.own q c.args.slot c.args.frame (lane_well w.lane o.sound) c.requires.0 o.kept in
     record {
-      answer = said_ok s c.args.port (row_port w) x fits (rw (line_long w o.filled) c.if-self-ge-MOST_LINE.false) within;
-      after = after ∙ ap (λ (n : ℕ). pushed n (stamped w.figures s n x) (row_port w)) e;
-      sound = record {
-        figures = rw kept o.figures;
-        filled = c.push.ensures.filled;
-        rises = put_rises w c.push.new.self s c.finish_after-finish.result x o fits e after;
+      answer = c.put.ensures.answer;
+      after = c.put.ensures.after;
+      own = refl;
+      whole = record {
+        sound = c.put.ensures.sound;
+        kept = subst (λ (v : PortModel). keeps v ≡ true) (sym c.put.ensures.after) (either keeps (is_ok c.put.result) q (lined c.args.slot q c.args.frame) o.kept put);
       };
     }

@@ -1,26 +1,28 @@
-use Rattle.std.proofs.Common.{sym, refl, ap, ◌∙◌}
-use Rattle.std.proofs.lemmas.List.{length-set}
-use Rattle.cabinet.specs.Model.{PortModel, frame_in}
-use Rattle.ports.proofs.TableSteps.{kept_set, port_past, take_left, take_said}
+use Rattle.std.proofs.Common.{◌≡◌, None, refl}
+use Rattle.cabinet.proofs.Decisions.{timely_taken}
+use Rattle.cabinet.specs.Takes.{hand_answer}
+use Rattle.ports.specs.Tables.{owns, table_model}
+use Rattle.ports.proofs.TableSteps.{none_own}
 use Rattle.ports.proofs.table.Table.hand_over.Goals as goal
 
-pub returns-then-port-self : goal.returns-then-port-self
-returns-then-port-self c =
+pub returns-then-ready : goal.returns-then-ready
+returns-then-ready g c =
+    let m = table_model c.args.self.now in
+    let e : c.leave.result ≡ hand_answer c.args.ready m c.args.port = rw c.if-ready.true c.leave.ensures.answer in
     record {
-      answer = sym (ap (λ (q : PortModel). frame_in q.line 0) (port_past c.args.self.now c.args.port c.if-port-self.true));
-      after = refl;
+      answer = e;
+      after = c.leave.ensures.after;
+      own = c.leave.ensures.own;
+      kept = timely_taken m (table_model c.leave.new.self) c.args.port c.args.ready c.leave.result e c.leave.ensures.after;
     }
 
-pub invariant_of-self : goal.invariant_of-self
-invariant_of-self c =
-    let t = c.args.self.now in
-    let k = kept_set t c.args.port c.take.new.self c.if-port-self.false c.take.ensures.sound in
-    record { sized = length-set t.rows c.args.port c.take.new.self ∙ t.sized; few = t.few; soon = t.soon; figures = k.0; filled = k.1; rises = k.2 }
-
-pub returns : goal.returns
-returns c =
-    let t = c.args.self.now in
+pub returns-else-ready : goal.returns-else-ready
+returns-else-ready g c =
+    let m = table_model c.args.self.now in
+    let e : None ≡ hand_answer c.args.ready m c.args.port = rw c.if-ready.false in
     record {
-      answer = take_said t c.args.port c.if-port-self.false c.take.result c.take.ensures.answer;
-      after = take_left t c.args.port c.if-port-self.false c.take.new.self c.take.result c.take.ensures.after;
+      answer = e;
+      after = refl;
+      own = none_own g.K.Kind.handed c.args.port (owns c.args.self.now);
+      kept = timely_taken m m c.args.port c.args.ready None e refl;
     }

@@ -1,0 +1,9 @@
+use Rattle.std.proofs.Common.{rules}
+use borrow.Author.Tests.{tests}
+use Rattle.cabinet.specs.Model.{frame_in}
+use Rattle.ports.proofs.TableSteps.{by_row}
+use Rattle.ports.proofs.table.serving.TableCabinet.frame.Goals as goal
+
+pub returns : goal.returns
+returns g c =
+    by_row c.args.self.now c.args.port (λ q. frame_in q.line c.args.i) c.and_then.result c.row.result c.row.ensures (λ e. search (rules, tests)) (λ w e o. search (rules, tests))
