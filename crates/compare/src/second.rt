@@ -143,6 +143,7 @@ impl Second {
     fn sweep(&mut self) -> bool {
         let parts = self.parts;
         let mut raised = false;
+        // By flow and hop: a cell's need is asked of the whole before it is written.
         for (f, flow) in parts.flows().iter().enumerate().rev() {
             for k in (0..flow.path.crossed().len()).rev() {
                 if self.raise(f, flow, k) {
@@ -183,7 +184,7 @@ impl Second {
         Ok(())
     }
 
-    // The first proposed cell below its need.
+    // The first proposed cell below its need; by flow and hop, as needs are asked.
     fn check_needs(&self) -> Result<(), Fault> {
         for (f, flow) in self.parts.flows().iter().enumerate() {
             for k in 0..flow.path.crossed().len() {
@@ -219,7 +220,7 @@ impl Second {
         Ok(())
     }
 
-    // The first regulator with more than 16 frames.
+    // The first regulator with more than 16 frames; by flow and hop, as masks are asked.
     fn check_regulators(&self) -> Result<(), Fault> {
         for (f, flow) in self.parts.flows().iter().enumerate() {
             for k in 0..flow.path.crossed().len() {

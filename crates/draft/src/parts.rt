@@ -14,6 +14,7 @@ pub struct Size {
 }
 
 // The ports and flows of a plan, numbered from 0; what stands past the size has no meaning.
+// Arrays beside a size, since nothing here is allocated and a plan is copied as it stands.
 #[derive(Clone, Copy)]
 pub struct Parts {
     pub ports: [Port; MOST_PORTS],

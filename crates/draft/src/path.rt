@@ -4,7 +4,7 @@ ghost use Rattle.draft.specs.Plans.{crossed};
 
 use crate::limits::MOST_HOPS;
 
-// A path: the first `hops` bytes name its ports, in order; the others are 255.
+// A path as a file has it: the first `hops` bytes name its ports, in order; the others are 255.
 #[derive(Clone, Copy)]
 pub struct Path {
     pub hops: u8,

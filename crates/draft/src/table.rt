@@ -16,7 +16,7 @@ pub struct Table {
     pub rows: [Row; MOST_FLOWS],
 }
 
-// A table that a file proposes, of which so many rows were given.
+// A table that a file proposes, of which so many rows were given; the table has all its rows, whatever was given.
 #[derive(Clone, Copy)]
 pub struct Proposal {
     pub table: Table,

@@ -20,6 +20,7 @@ whole_place w = sym (take-append-drop w.at w.place.now)
 pub wrote_more : {a b c : Writer} {s t : List ℕ} → Wrote a s b → Wrote b t c → (u : List ℕ) → s ++ t ≡ u → Wrote a u c
 wrote_more {a = a} {s = s} {t = t} o p u e =
     record {
+      owner = p.owner ∙ o.owner;
       more = p.more ∙ (ap (λ l. l ++ t) o.more ∙ (append_assoc (done a) s t ∙ ap (λ l. done a ++ l) e));
       rest = p.rest ∙ (ap (drop (length t)) o.rest ∙ (drop-drop (length t) (length s) (left a) ∙ ap (λ n. drop n (left a)) (sym (length-append s t) ∙ ap length e)));
     }

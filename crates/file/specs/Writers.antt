@@ -10,8 +10,9 @@ done w = take w.at w.place.now
 unfoldable pub left : Writer → List ℕ
 left w = drop w.at w.place.now
 
--- more bytes stand behind what was written, and the rest is as it was
+-- more bytes stand behind what was written, in the same place, and the rest is as it was
 pub record Wrote (old : Writer) (bytes : List ℕ) (new : Writer) : Type 0 where
+  pub owner : new.place.ghost_name ≡ old.place.ghost_name
   pub more : done new ≡ done old ++ bytes
   pub rest : left new ≡ drop (length bytes) (left old)
 

@@ -30,7 +30,6 @@ fn file_size(draft: &Draft) -> Option<usize>
 fn put_file(draft: &Draft, writer: &mut Writer)
     requires few { Few draft.now }
     requires room { encoded_size draft.now ≤ length (left writer.old) }
-    ensures owner { writer.new.place.ghost_name ≡ writer.old.place.ghost_name }
     ensures after { Wrote writer.old (encoded draft.now) writer.new }
     ensures back { read (encoded draft.now) ≡ Ok (tidied draft.now) }
 {

@@ -8,7 +8,7 @@ mod whole;
 
 pub use whole::read;
 
-// Whether more records are to come.
+// Whether more records are to come: two cases with names, where a truth value would not say which is which.
 #[derive(Clone, Copy, Debug, PartialEq, Eq)]
 pub enum Progress {
     More,

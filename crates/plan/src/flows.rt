@@ -96,6 +96,7 @@ pub(crate) fn check_flows(parts: &Parts) -> Result<(), PlanFault>
     ensures paths { OnOk result (Simples parts.now) }
 {
     let mut regulators = 0;
+    // By number: a flow past those that there is room for is refused too, and no slice holds it.
     for f in 0..parts.size.flows {
         regulators = check_flow(parts, f, regulators)?;
     }

@@ -52,6 +52,7 @@ pub(crate) fn check_ports(parts: &Parts) -> Result<(), PlanFault>
     ensures answer { result ≡ first_refusal (port_answer parts.now) parts.now.size.ports }
     ensures few { OnOk result (parts.now.size.ports ≤ 32) }
 {
+    // By number: a port past those that there is room for is refused too, and no slice holds it.
     for p in 0..parts.size.ports {
         check_port(parts, p)?;
     }

@@ -12,7 +12,7 @@ mod changes;
 mod questions;
 mod serving;
 
-// A cabinet of one kind: up to eight ports, of which the first `count` rows are in use.
+// A cabinet of one kind: up to eight ports, of which the first `count` rows are in use. An array, since nothing is allocated.
 pub struct Table<K: Kind> {
     rows: [Row<K>; MOST_TABLE],
     count: usize,

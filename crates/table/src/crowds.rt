@@ -49,6 +49,7 @@ impl Route<'_> {
             return Ok(());
         }
         let mut stretch = 0;
+        // by the hop: the stretch goes on from one to the next
         for k in 0..self.hops() {
             if !self.regulator_fits(stretch, k) {
                 return Err(TableFault::Crowded(MOST_PORTS + self.place(k)));
@@ -63,6 +64,7 @@ impl Route<'_> {
 fn regulators(plan: &Plan, delays: &PortTimes) -> Result<(), TableFault>
     ensures { result ≡ regulators_by plan.now.parts delays.now.slots }
 {
+    // by the flow's number, which its route bears
     for f in 0..plan.parts.size.flows {
         route_of(plan, f).regulators_in(delays)?;
     }

@@ -61,6 +61,7 @@ impl Route<'_> {
         ensures few { result ≤ 8 * most_delay }
     {
         let mut sum = 0;
+        // by the hop, at which the time is asked; a `sum` over the ports would have to show its bound again
         for k in 0..self.hops() {
             sum += delays.at_hop(self, k);
         }

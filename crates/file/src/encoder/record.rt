@@ -17,7 +17,6 @@ pub(crate) trait Record {
 
     fn put(&self, number: u8, writer: &mut Writer)
         requires { length (bytes number self.now) ≤ length (left writer.old) }
-        ensures owner { writer.new.place.ghost_name ≡ writer.old.place.ghost_name }
         ensures after { Wrote writer.old (bytes number self.now) writer.new }
         ensures full { full self.now };
 }
@@ -69,7 +68,6 @@ impl Record for Row {
 // The end, after so many records.
 pub(crate) fn put_end(before: u32, writer: &mut Writer)
     requires { 5 ≤ length (left writer.old) }
-    ensures owner { writer.new.place.ghost_name ≡ writer.old.place.ghost_name }
     ensures after { Wrote writer.old (end_record before) writer.new }
 {
     writer.put_letter(Kind::End);
@@ -80,7 +78,6 @@ pub(crate) fn put_end(before: u32, writer: &mut Writer)
 pub(crate) fn put_all<T: Record>(records: &[T], writer: &mut Writer)
     requires few { length records.now ≤ 64 }
     requires room { length (in_order T.bytes 0 records.now) ≤ length (left writer.old) }
-    ensures owner { writer.new.place.ghost_name ≡ writer.old.place.ghost_name }
     ensures after { Wrote writer.old (in_order T.bytes 0 records.now) writer.new }
     ensures full { All T.full records.now }
 {

@@ -5,6 +5,7 @@ ghost use Rattle.line.specs.Ring.{placed};
 
 use super::Queue;
 
+// That the memory is still the lender's is a clause of each call, since `Pushed` and `Popped` go by cases.
 impl<'a, T: Copy> Queue<'a, T> {
     // An empty queue; the lent memory is as it was.
     pub fn new(places: &'a mut [T]) -> Queue<'a, T>

@@ -22,7 +22,6 @@ impl<'a> Writer<'a> {
     #[tactic(auto, unfolding(crate::specs::Writers::done, crate::specs::Writers::left))]
     pub(crate) fn put(&mut self, bytes: &[u8])
         requires { length bytes.now ≤ length (left self.old) }
-        ensures owner { self.new.place.ghost_name ≡ self.old.place.ghost_name }
         ensures after { Wrote self.old bytes.now self.new }
     {
         let end = self.at + bytes.len();
@@ -33,7 +32,6 @@ impl<'a> Writer<'a> {
     // The letter of a record.
     pub(crate) fn put_letter(&mut self, kind: Kind)
         requires { 1 ≤ length (left self.old) }
-        ensures owner { self.new.place.ghost_name ≡ self.old.place.ghost_name }
         ensures after { Wrote self.old (letter kind ∷ []) self.new }
     {
         self.put(&[kind.letter()]);
@@ -42,7 +40,6 @@ impl<'a> Writer<'a> {
     // A number in four bytes, the highest first.
     pub(crate) fn put_number(&mut self, n: u32)
         requires { 4 ≤ length (left self.old) }
-        ensures owner { self.new.place.ghost_name ≡ self.old.place.ghost_name }
         ensures after { Wrote self.old (bytes_of n) self.new }
     {
         self.put(&n.to_be_bytes());

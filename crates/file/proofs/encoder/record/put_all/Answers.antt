@@ -10,7 +10,7 @@ put-requires g c =
     let f = g.T.Record.bytes in
     let x = c.index-records-number in
     let same = ap (λ y. length (f l.number y)) x.is in
-    room_left l.invariant.1 _ (omega (arith, same, in_order_room f c.args.records.now l.number x.result (omega arith)))
+    room_left l.invariant.0 _ (omega (arith, same, in_order_room f c.args.records.now l.number x.result (omega arith)))
 
 pub loop-number-preserved : goal.loop-number-preserved
 loop-number-preserved g c =
@@ -19,5 +19,5 @@ loop-number-preserved g c =
     let x = c.index-records-number in
     let more = in_order_more f c.args.records.now l.number x.result (omega arith) in
     let xs = c.args.records.now in
-    let full = All-more g.T.Record.full xs l.number x.result (omega arith) l.invariant.2 (subst g.T.Record.full x.is c.put.ensures.full) in
-    (c.put.ensures.owner ∙ l.invariant.0, wrote_more l.invariant.1 c.put.ensures.after _ (ap (λ y. in_order f 0 (take l.number xs) ++ f l.number y) x.is ∙ sym more), full)
+    let full = All-more g.T.Record.full xs l.number x.result (omega arith) l.invariant.1 (subst g.T.Record.full x.is c.put.ensures.full) in
+    (wrote_more l.invariant.0 c.put.ensures.after _ (ap (λ y. in_order f 0 (take l.number xs) ++ f l.number y) x.is ∙ sym more), full)
