@@ -43,10 +43,11 @@ impl Second {
     }
 
     fn cell(&self, f: usize, k: usize) -> u64 {
-        match self.cells.get(f) {
-            Some(row) => row.get(k).copied().unwrap_or(0),
-            None => 0,
-        }
+        self.cells
+            .get(f)
+            .and_then(|row| row.get(k))
+            .copied()
+            .unwrap_or(0)
     }
 
     // A weight of each flow and hop at which a port is crossed, summed.
