@@ -15,7 +15,7 @@ impl Thirds {
         Thirds { asked: 0 }
     }
 
-    // Counts one question more, and tells whether it is a third one.
+    // Counts one question more, and tells whether it is a third one: yes or no.
     pub(crate) fn count(&mut self) -> bool {
         let third = self.asked >= 2;
         self.asked = if third { 0 } else { self.asked + 1 };

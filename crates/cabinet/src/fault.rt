@@ -4,7 +4,7 @@ ghost use Rattle.cabinet.specs.Faults.{refusal_of};
 
 use refusal::Refusal;
 
-#[derive(Clone, Copy)]
+#[derive(Clone, Copy, Debug, PartialEq, Eq)]
 pub enum CabinetFault {
     // There is no such port, or it may not be added.
     NoPort(usize),

@@ -124,7 +124,7 @@ impl Second {
             .saturating_add(u64::from(flow.rate).saturating_mul(spread))
     }
 
-    // Raises one cell to its need; tells whether it was below.
+    // Raises one cell to its need; tells whether it was below, and nothing else is to be told.
     fn raise(&mut self, f: usize, flow: &Flow, k: usize) -> bool {
         let need = self.need(f, flow, k);
         let Some(row) = self.cells.get_mut(f) else {
@@ -140,7 +140,7 @@ impl Second {
         true
     }
 
-    // Raises every cell once, the last first; tells whether one was below its need.
+    // Raises every cell once, the last first; tells whether one was below its need, and nothing else is to be told.
     fn sweep(&mut self) -> bool {
         let parts = self.parts;
         let mut raised = false;

@@ -27,6 +27,7 @@ fn tell(rt: &HostRuntime, what: &str, place: usize, value: u8, bytes: &[u8]) -> 
     }
 }
 
+// By the length that is left.
 fn cuts(rt: &HostRuntime, bytes: &[u8]) -> io::Result<()> {
     for n in 0..bytes.len() {
         tell(rt, "cut", n, 0, &bytes[..n])?;
@@ -48,6 +49,7 @@ fn changes(rt: &HostRuntime, bytes: &mut [u8]) -> io::Result<()> {
 }
 
 // As many copies of a record as told, rows numbered on, and an end record. After the kind and the number stand zeros.
+// The letters are bytes here, since damaged files have any.
 fn copies(rt: &HostRuntime, kind: u8, zeros: usize, count: u8) -> io::Result<()> {
     let mut file = Vec::new(rt.alloc());
     for n in 0..count {

@@ -10,6 +10,7 @@ pub struct Mask {
     pub bits: u8,
 }
 
+// A hop below 8 is asked for, and given by both callers: a type for such a number was no plainer.
 fn bit_of(bits: u8, hop: usize) -> u8
     requires { hop < 8 }
     ensures value { result ≡ bit bits hop }

@@ -24,6 +24,7 @@ fn read_numbers(alloc: Global, words: SplitWhitespace) -> anyhow::Result<Vec<u32
     Ok(numbers)
 }
 
+// The three kinds of lines are read apart, since each says its own when it is refused.
 fn add_port(draft: &mut Draft, numbers: &[u32]) -> anyhow::Result<()> {
     let &[rate, latency, stay, shortest] = numbers else {
         bail!("PORT takes rate, latency, least stay and shortest frame");

@@ -9,7 +9,7 @@ ghost use Rattle.foreign.specs.Outcomes.{outcome};
 use printing::{print, quote_of};
 use refusal::Refusal;
 
-// The number of the first refusal, or 256 and the rounds of the quote.
+// The number of the first refusal, or 256 and the rounds of the quote: one number, since C asks for it.
 #[unsafe(no_mangle)]
 pub extern "C" fn hovzirna_outcome(bytes: &[u8]) -> u64
     ensures { result ≡ outcome (sheet_quote bytes.now) }

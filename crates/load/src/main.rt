@@ -89,6 +89,7 @@ fn main(rt: HostRuntime) -> anyhow::Result<()> {
     };
     let slots: u64 = first.as_str().parse()?;
     for word in words {
+        // The kinds are types, so that a word can only be matched to one.
         let outcome = match word.as_str() {
             "latest" => loaded(slots, Latest::new(), Due),
             "gathering" => loaded(slots, Gathering::new(), Period::new(8)),

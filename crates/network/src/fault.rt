@@ -4,7 +4,7 @@ ghost use Rattle.network.specs.Faults.{refusal_of};
 
 use refusal::Refusal;
 
-#[derive(Clone, Copy)]
+#[derive(Clone, Copy, Debug, PartialEq, Eq)]
 pub enum NetworkFault {
     // There is no flow of this number.
     NoFlow(usize),

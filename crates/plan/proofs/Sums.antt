@@ -1,5 +1,5 @@
 -- Sums kept at the places of a list, and what a flow adds to them.
-use Rattle.std.proofs.Common.{◌≡◌, ℕ, zero, suc, ◌+◌, ◌<◌, ◌≤◌, Bool, true, false, cond, not, ◌&&◌, eqb, ltb, List, length, get_or, set, replicate, sym, refl, ap, ◌∙◌, add-zero, arith, get_or-set_other, get_or-set_same}
+use Rattle.std.proofs.Common.{◌≡◌, ℕ, zero, suc, ◌<◌, ◌≤◌, Bool, true, false, cond, not, ◌&&◌, eqb, ltb, get_or, replicate, sym, refl, ap, ◌∙◌, arith}
 use native.Mathlib.Decide.{ℕ_discrete}
 use Rattle.std.proofs.lemmas.Bool.{and_parts, both_ways, eq-eqb, eqb-true, lt-ltb, ltb-true, ne_eqb, not-false, not-true}
 use Rattle.refusal.proofs.Orders.{all_below_each, all_below_some}
@@ -9,13 +9,6 @@ use Rattle.draft.specs.declared.flow.Flow.{Flow}
 use Rattle.draft.specs.declared.parts.Parts.{Parts}
 use Rattle.plan.specs.Limits.{Kept, crosses}
 use Rattle.plan.specs.Rates.{Simple, Simples, rate_in}
-
--- v is added at place i alone
-pub add_at : (xs : List ℕ) (i v p : ℕ) → i < length xs → get_or (set xs i (get_or xs i 0 + v)) p 0 ≡ get_or xs p 0 + cond (eqb i p) v 0
-add_at xs i v p l = elim (ℕ_discrete p i) [
-  | yes q ↦ rw (q, get_or-set_same xs i (get_or xs i 0 + v) 0 l, eq-eqb i i refl)
-  | no q ↦ rw (get_or-set_other xs i p (get_or xs i 0 + v) 0 q, ne_eqb i p (λ e. q (sym e)), add-zero)
-]
 
 pub zeros : (n p : ℕ) → ◌≡◌ {A = ℕ} (get_or (replicate n 0) p 0) 0
 zeros zero p = refl

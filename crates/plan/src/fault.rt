@@ -6,7 +6,7 @@ ghost use Rattle.plan.specs.declared.fault.PlanFault.TheVariants.{File};
 use file::FileFault;
 use refusal::Refusal;
 
-#[derive(Clone, Copy)]
+#[derive(Clone, Copy, Debug, PartialEq, Eq)]
 pub enum PlanFault {
     // The file is no plan file.
     File(FileFault),

@@ -7,6 +7,8 @@ ghost use Rattle.plan.specs.Limits.{crosses};
 use draft::Flow;
 use draft::limits::{MOST_HOPS, UNUSED};
 
+// Here and in `flows` a hop's number is asked to be below 8 of each function: a type for it was no plainer.
+
 // No hop before this one has the same port.
 fn first_visit(flow: Flow, hop: usize) -> bool
     requires { hop < 8 }

@@ -66,6 +66,7 @@ pub(crate) fn check_rates(parts: &Parts) -> Result<(), PlanFault>
     ensures { result ≡ first_refusal (rates_answer parts.now) parts.now.size.ports }
 {
     let sums = rates(parts);
+    // The sums go by the port's number, which the fault tells too.
     for (p, port) in parts.ports().iter().enumerate() {
         if sums[p] > u64::from(port.rate) {
             return Err(PlanFault::Rates(p));

@@ -1,5 +1,6 @@
 -- What a kind of cabinet is asked for: when it is in time, and of which frame.
-use Rattle.std.specs.Prelude.{◌≡◌, ℕ, ◌+◌, ◌≤◌, Bool, true, ◌∷◌, drop, Some, None, Option}
+use Rattle.std.specs.Prelude.{◌≡◌, ℕ, ◌+◌, ◌≤◌, Bool, true, ◌&&◌, ◌||◌, ◌∷◌, drop, Some, None, Option, nat_le}
+use Rattle.service.specs.Entries.{has_stayed}
 use Rattle.service.specs.declared.frame.Frame.{Frame}
 use Rattle.cabinet.specs.Model.{PortModel, frame_in}
 use Rattle.cabinet.specs.Takes.{passes}
@@ -25,3 +26,7 @@ own_after handed (Some x) k = handed k x
 abbrev pub first_stays : PortModel → Option Frame → Type 0
 first_stays q None = Unit {0}
 first_stays q (Some x) = x.entry + q.figures.stay ≤ x.due
+
+-- a frame is handed over in this slot: early, where that is told, once it has stayed; and in any case when it is due
+abbrev pub early_or_due : Bool → ℕ → ℕ → Frame → Bool
+early_or_due early slot stay x = (early && has_stayed stay slot x) || nat_le x.due slot

@@ -8,6 +8,8 @@ use draft::limits::MOST_FRAME;
 use rounding::up;
 use service::Frame;
 
+// A port's figures, a slot and a finish are handed in one by one, as the rules of service name them.
+
 // Whether the port takes a frame of this length.
 pub(crate) fn length_fits(figures: Port, len: u32) -> bool
     ensures { result ≡ length_fits figures len }

@@ -14,7 +14,8 @@ use cabinet::CabinetFault;
 use draft::Port;
 use service::Frame;
 
-// The port, and the kind's own beside it.
+// The port, and the kind's own beside it. That a row is whole is asked of each method, and is no ghost field of its own:
+// the table that holds the rows says it of those in use, and a row that is not in use need not be.
 #[derive(Clone, Copy)]
 pub struct Row<K> {
     pub(crate) lane: Lane,

@@ -26,6 +26,7 @@ pub struct Table<K: Kind> {
     ghost kept: { Each (KeptBy K.keeps) count rows },
 }
 
+// By hand, since it cannot be derived on a generic struct with ghost fields.
 impl<K: Kind> Copy for Table<K> {}
 
 impl<K: Kind> Clone for Table<K> {

@@ -7,7 +7,7 @@ use plan::PlanFault;
 use refusal::Refusal;
 use table::TableFault;
 
-#[derive(Clone, Copy)]
+#[derive(Clone, Copy, Debug, PartialEq, Eq)]
 pub enum SheetFault {
     // The plan is refused, or its file.
     Plan(PlanFault),

@@ -15,7 +15,7 @@ use Rattle.cabinet.specs.Takes.{InTime}
 use Rattle.cabinet.specs.Wells.{WellPort}
 use Rattle.ports.specs.Kinds.{Leads}
 use Rattle.prompt.specs.Paces.{own_finish_push, own_finish_rises, pace_kept, pace_through, through_push}
-use Rattle.prompt.specs.Wires.{CountsPuts, kept, own_after, own_finish, own_of, wire_fits, passed, sent_on, through, suits}
+use Rattle.prompt.specs.Wires.{kept, own_after, own_finish, own_of, wire_fits, passed, sent_on, through, suits}
 use Rattle.prompt.specs.declared.wire.Wire.{Wire}
 
 -- what is kept, part by part
@@ -127,6 +127,3 @@ wire_in_time w q slot x l =
       stayed = passed_stayed w slot q.figures.stay x;
       later = unpassed_later w slot q.figures.stay x (kept_first w q x (drop 1 q.line) l.first (parts w q l.kept)).0 l.stays;
     }
-
-pub counts_puts : (w : Wire) → CountsPuts w
-counts_puts w q slot x = own_finish_push w.speed w.sent q.line (entered q.figures slot q.finish x)

@@ -1,11 +1,11 @@
 -- The line out of a prompt port: its own finish g, counted at the line speed C, and what it keeps.
-use Rattle.std.specs.Prelude.{◌≡◌, ℕ, ◌+◌, ◌*◌, max, Bool, true, ◌&&◌, List, [], ◌∷◌, ◌==◌, nat_le}
+use Rattle.std.specs.Prelude.{◌≡◌, ℕ, ◌+◌, ◌*◌, max, Bool, true, cond, ◌&&◌, List, [], ◌∷◌, is_ok, ◌==◌, nat_le}
 use Rattle.draft.specs.declared.port.Port.{Port}
 use Rattle.rounding.specs.Quotients.{up}
 use Rattle.service.specs.Entries.{has_stayed}
 use Rattle.service.specs.declared.frame.Frame.{Frame}
-use Rattle.cabinet.specs.Model.{PortModel}
-use Rattle.cabinet.specs.Puts.{lined}
+use Rattle.cabinet.specs.Model.{Model, PortModel, port_in}
+use Rattle.cabinet.specs.Puts.{put_after, put_answer}
 use Rattle.prompt.specs.declared.wire.Wire.{Wire}
 
 -- a line that has sent nothing yet
@@ -33,10 +33,14 @@ own_finish speed own (x ∷ xs) = own_finish speed (own_after speed own x) xs
 abbrev pub own_of : Wire → PortModel → ℕ
 own_of w q = own_finish w.speed w.sent q.line
 
--- g once a frame is put: the greater of g and slot × C, plus the length
-abbrev pub CountsPuts : Wire → Type 0
-CountsPuts w =
-    (q : PortModel) (slot : ℕ) (x : Frame) → own_of w (lined slot q x) ≡ max (own_of w q) (slot * w.speed) + x.len
+-- g of port p once the frame is put: the greater of g and slot × C, plus the length; as it was where the frame is refused
+abbrev pub own_put : Wire → Model → ℕ → Frame → ℕ
+own_put w m p x =
+    cond (is_ok (put_answer m p x)) (max (own_of w (port_in m p)) (m.slot * w.speed) + x.len) (own_of w (port_in m p))
+
+-- so it is at every put: put leaves the wire as it was, and the ports as put_after says
+abbrev pub PutsCounted : Type 0
+PutsCounted = (w : Wire) (m : Model) (p : ℕ) (x : Frame) → own_of w (port_in (put_after m p x) p) ≡ own_put w m p x
 
 -- the first frame is handed over once the slots up(g/C) + U and entry + m are reached, with g counted up to it
 abbrev pub passed : Wire → ℕ → ℕ → Frame → Bool

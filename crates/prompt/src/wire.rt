@@ -2,7 +2,7 @@
 ghost use Rattle.std.specs.Prelude.{◌≡◌, ◌≤◌};
 ghost use Rattle.cabinet.specs.Model.{PortModel};
 ghost use Rattle.ports.specs.Kinds.{Leads};
-ghost use Rattle.prompt.specs.Wires.{CountsPuts, fresh_wire, kept, own_after, passed, sent_on, suits};
+ghost use Rattle.prompt.specs.Wires.{PutsCounted, fresh_wire, kept, own_after, passed, sent_on, suits};
 ghost use Rattle.prompt.specs.WireLaws.{wire_handed, wire_in_time, wire_put, wire_starts};
 
 use draft::Port;
@@ -25,8 +25,7 @@ pub type Prompt = Table<Wire>;
 impl Wire {
     // A line of this speed and latency, which has sent nothing yet.
     pub fn new(speed: u32, latency: u32) -> Wire
-        ensures wire { result ≡ fresh_wire speed latency }
-        ensures puts { CountsPuts result }
+        ensures { result ≡ fresh_wire speed latency }
     {
         Wire {
             speed,
@@ -79,10 +78,12 @@ impl Kind for Wire {
         done <= slot && frame.has_stayed(stay, slot)
     }
 
-    fn hand(&mut self, frame: Frame)
-        ensures handed { (q : PortModel) → Leads (kept self.old) q frame → self.new ≡ sent_on self.old frame }
-        ensures puts { CountsPuts self.new }
-    {
+    fn hand(&mut self, frame: Frame) {
         self.sent = self.own_after(frame);
     }
 }
+
+// At every put the own finish of a prompt port becomes the greater of itself and slot × C, plus the length; refused, it stays.
+pub fn puts_counted()
+    ensures { PutsCounted }
+{}

@@ -41,20 +41,6 @@ pub all_below_by_all : {F : Type 0} {g : Mut F (ℕ × Unit {0}) Bool} (b : ℕ 
 all_below_by_all b n s u f r e ran pass fail =
     decided b n r (cases_from_all u f r (λ k. b k ≡ true) (λ k. b k ≡ false) ran (below s n e) pass fail)
 
--- `(0..n).any(f)`, where f answers b
-pub all_below_by_any : {F : Type 0} {g : Mut F (ℕ × Unit {0}) Bool} (b : ℕ → Bool) (n : ℕ) (s u : Range ℕ) (f : F) (r : Bool) → s ≡ record { start = 0; end = n }
-    → (xs : List ℕ) × (o : Option ℕ) × (j : F) × YieldsThen nat_range_steps s xs o u × FoldsTo (λ p x q. Called g p (x, tt) false q) f xs j × MatchOption o (r ≡ false) (λ x. (r ≡ true) × ((h : F) × Called g j (x, tt) true h))
-    → ((x : ℕ) (q : F) → Called g f (x, tt) true q → b x ≡ false) → ((x : ℕ) (q : F) → Called g f (x, tt) false q → (q ≡ f) × (b x ≡ true))
-    → r ≡ not (all_below b n)
-all_below_by_any b n s u f r e ran pass fail =
-    undecided b n r (cases_from_any u f r (λ k. b k ≡ false) (λ k. b k ≡ true) ran (below s n e) pass fail)
-  where
-    undecided : (b : ℕ → Bool) (n : ℕ) (r : Bool)
-        → MatchBool r ((k : ℕ) × (k < length (range_with_len 0 n)) × HoldsAt (λ k. b k ≡ false) (range_with_len 0 n) k) (AllWithin (λ k. b k ≡ true) (range_with_len 0 n) 0 (length (range_with_len 0 n)))
-        → r ≡ not (all_below b n)
-    undecided b n true h = ap not (decided b n false h)
-    undecided b n false h = ap not (decided b n true h)
-
 -- an element that passes p is found, or there is none
 pub all_below_by_found : {A : Type 0} (p : A → Bool) (xs : List A) (d : A) (r : Bool) → IsAnyAnswer (λ x b. p x ≡ b) xs r → r ≡ not (all_below (λ k. not (p (get_or xs k d))) (length xs))
 all_below_by_found p xs d true h =

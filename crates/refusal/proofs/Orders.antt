@@ -1,16 +1,8 @@
 -- What a loop over tests tried in order knows at each turn.
 use Rattle.std.proofs.Common.{◌≡◌, ℕ, zero, suc, ◌+◌, ◌<◌, ◌≤◌, Bool, true, false, ◌&&◌, Ok, Err, Result, sym, refl, ap, ◌∙◌, subst, ⊎_elim, add-one, arith}
 use native.Mathlib.Decide.{ℕ_discrete}
-use Rattle.std.proofs.lemmas.Bool.{and_cases, and_from, and_parts, and_right, both_ways, cases_lt}
+use Rattle.std.proofs.lemmas.Bool.{and_cases, and_parts, and_right, both_ways, cases_lt}
 use Rattle.refusal.specs.Firsts.{all_below, and_then, first_refusal}
-
--- a loop over tests: one more passes
-pub all_below_more : (b : ℕ → Bool) (k : ℕ) → all_below b k ≡ true → b k ≡ true → all_below b (k + 1) ≡ true
-all_below_more b k e h = rw add-one (and_from (all_below b k) (b k) e h)
-
--- it ends, and all have passed
-pub all_below_done : (b : ℕ → Bool) (n k : ℕ) → n ≤ k → k ≤ n → all_below b k ≡ true → true ≡ all_below b n
-all_below_done b n k l h e = let q : k ≡ n = omega arith in sym (subst (λ (i : ℕ). all_below b i ≡ true) q e)
 
 -- one fails
 pub all_below_fails : (b : ℕ → Bool) (n k : ℕ) → k < n → b k ≡ false → all_below b n ≡ false
@@ -19,10 +11,6 @@ all_below_fails b (suc n) k h e = elim (ℕ_discrete k n) [
   | yes q ↦ and_right (all_below b n) (b n) (sym (ap b q) ∙ e)
   | no q ↦ ap (λ x. x && b n) (all_below_fails b n k (omega arith) e)
 ]
-
--- it stops, since one fails
-pub all_below_stop : (b : ℕ → Bool) (n k : ℕ) → k < n → false ≡ b k → false ≡ all_below b n
-all_below_stop b n k h e = sym (all_below_fails b n k h (sym e))
 
 -- all pass, so each does
 pub all_below_each : (b : ℕ → Bool) (n : ℕ) → all_below b n ≡ true → (k : ℕ) → k < n → b k ≡ true

@@ -8,7 +8,7 @@ mod methods;
 pub const PLACES: usize = 16;
 
 // A regulator: its level in bits, which counts as the burst where it is more; and its line.
-#[derive(Drop)]
+#[derive(Clone, Drop)]
 pub struct Regulator {
     pub level: u32,
     pub line: ArrayVec<Frame, PLACES>,

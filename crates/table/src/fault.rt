@@ -4,7 +4,7 @@ ghost use Rattle.table.specs.Faults.{refusal_of};
 
 use refusal::Refusal;
 
-#[derive(Clone, Copy)]
+#[derive(Clone, Copy, Debug, PartialEq, Eq)]
 pub enum TableFault {
     // So many rows were given, which is not one a flow.
     Rows(usize),

@@ -49,7 +49,7 @@ pub(crate) fn reckon(plan: &Plan, table: &Table) -> Reckoned
     }
 }
 
-// D - m of each port by its B, written over the gaps of the table before.
+// D - m of each port by its B, written over the gaps of the table before: a round needs no more, and is what takes time.
 pub(crate) fn set_gaps(plan: &Plan, loads: &PortLoads, found: &mut PortTimes)
     requires { (p : ℕ) → plan.now.parts.size.ports ≤ p → p < 32 → slice_index found.old.slots p ≡ 0 }
     ensures { (t : Table) → Loaded plan.now.parts t loads.now.bits → found.new.slots ≡ gaps plan.now.parts t }

@@ -15,7 +15,7 @@ use plan::Plan;
 
 impl Route<'_> {
     // Makes its cells and adds each to the load of its port.
-    // Tells whether they were the same before; or the first whose need passes the limit.
+    // Tells whether they were the same before, yes or no and nothing beside it; or the first whose need passes the limit.
     fn make_row(
         &self,
         gaps: &PortTimes,
@@ -45,7 +45,7 @@ impl Route<'_> {
 }
 
 // Each cell of these rows becomes its need, by the gaps of their table; the sums become the loads of the table made.
-// Tells whether nothing changed, or the first need that passes the limit.
+// Tells whether nothing changed, by a truth value that is gathered with `&=`, or the first need that passes the limit.
 fn make_rows(
     plan: &Plan,
     gaps: &PortTimes,

@@ -5,6 +5,8 @@ ghost use Rattle.table.specs.Bounds.{most_delay};
 use draft::limits::MOST_PORTS;
 
 // D or D - m of each port, in slots: none is longer than the fullest table makes it.
+// Not one type with the loads of ports: a time is set, a load is added to, and their bounds are other facts.
+// A port's number is asked to be below 32, or the plan's, of each call: a type for it was no plainer.
 #[derive(Clone, Copy)]
 pub struct PortTimes {
     pub slots: [u64; MOST_PORTS],

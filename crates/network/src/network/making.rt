@@ -51,6 +51,7 @@ fn sources(plan: &Plan) -> [Source; MOST_FLOWS]
     };
     let mut found = [full; MOST_FLOWS];
     let mut n = 0;
+    // By number: of an array written through a zip nothing is known afterwards.
     for (f, flow) in plan.parts.flows().iter().enumerate() {
         found[f].first = n;
         n += flow.mask.count() as usize;

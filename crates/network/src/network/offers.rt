@@ -39,6 +39,7 @@ impl<C: Cabinet> Network<C> {
         if level < len {
             return Err(NetworkFault::Level(flow));
         }
+        // written out, since each field is the rule's: hop 0, this slot, and what the port makes of it
         let frame = Frame {
             flow: flow as u8,
             hop: 0,

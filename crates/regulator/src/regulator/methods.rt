@@ -39,10 +39,7 @@ impl Regulator {
         ensures back { IfErr result (λ x. x ≡ frame) }
         ensures after { held self.new ≡ join_after (held self.old) frame }
     {
-        match self.line.try_push(frame) {
-            Ok(()) => Ok(()),
-            Err(full) => Err(full.element()),
-        }
+        self.line.try_push(frame).map_err(|full| full.element())
     }
 
     // The first frame, if the level, at most the burst, covers its length; that lowers the level by it.

@@ -20,6 +20,7 @@ fn port_figures(plan: &Plan, reckoned: &Reckoned) -> [PortFigures; MOST_PORTS]
     let rates = plan.rates();
     let mut found = [PortFigures::default(); MOST_PORTS];
     let used = &mut found[..plan.parts.size.ports];
+    // by the port's number, as what was reckoned of it
     for (p, figures) in used.iter_mut().enumerate() {
         *figures = PortFigures {
             delay: reckoned.delays.slots[p],
