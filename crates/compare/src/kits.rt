@@ -45,14 +45,13 @@ impl Seed {
             hops: hops.min(8) as u8,
             ports: [255; 8],
         };
-        for (k, port) in path.ports.iter_mut().enumerate() {
-            if k < hops as usize {
-                *port = ((first.min(1000) + k as u32) % ports.max(1) % 32) as u8;
-            }
+        for (k, port) in path.ports.iter_mut().take(hops as usize).enumerate() {
+            *port = ((first.min(1000) + k as u32) % ports.max(1) % 32) as u8;
         }
         path
     }
 
+    // Ports and flows are added apart: they are other fields, filled by other chances.
     fn add_port(&mut self, draft: &mut Draft, rate: u32) {
         let n = draft.parts.size.ports;
         if let Some(place) = draft.parts.ports.get_mut(n) {
@@ -88,6 +87,7 @@ impl Seed {
             self.add_port(&mut draft, rate);
         }
         let each = (rate / ports.max(1)).min(1 + self.below(60));
+        // A flow from each port on, by its number.
         for f in 0..ports {
             let path = self.path(f, ports, ports);
             self.add_flow(&mut draft, each, path, 0);

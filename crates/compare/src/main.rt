@@ -94,8 +94,8 @@ fn compare_draft(draft: &Draft, answer: Result<(), Fault>, second: &Second) -> V
     }
 }
 
-// Counts a kit; tells whether the two calculations differ on it.
-fn count(tally: &mut Tally, draft: &Draft) -> bool {
+// Counts a kit, and tells what the comparison came to.
+fn count(tally: &mut Tally, draft: &Draft) -> Verdict {
     let mut second = Second::new(&draft.parts);
     let answer = second.judge(draft);
     let verdict = compare_draft(draft, answer, &second);
@@ -109,7 +109,7 @@ fn count(tally: &mut Tally, draft: &Draft) -> bool {
         (Verdict::Same, Err(Fault::Overloaded(_))) => &mut tally.overloaded,
     };
     *counter = counter.saturating_add(1);
-    verdict == Verdict::Differing
+    verdict
 }
 
 fn main(rt: HostRuntime) -> io::Result<()> {
@@ -117,15 +117,16 @@ fn main(rt: HostRuntime) -> io::Result<()> {
     let mut rings = Tally::default();
     let mut nets = Tally::default();
     let mut proposals = Tally::default();
+    // The number names a kit that differs.
     for i in 0..200u32 {
-        if count(&mut rings, &seed.ring()) {
+        if count(&mut rings, &seed.ring()) == Verdict::Differing {
             println!(rt; "ring {i} differs")?;
         }
         let net = seed.net();
-        if count(&mut nets, &net) {
+        if count(&mut nets, &net) == Verdict::Differing {
             println!(rt; "net {i} differs")?;
         }
-        if count(&mut proposals, &seed.proposal(net)) {
+        if count(&mut proposals, &seed.proposal(net)) == Verdict::Differing {
             println!(rt; "proposal {i} differs")?;
         }
     }

@@ -52,6 +52,7 @@ fn changes(rt: &HostRuntime, bytes: &mut [u8]) -> io::Result<()> {
 // The letters are bytes here, since damaged files have any.
 fn copies(rt: &HostRuntime, kind: u8, zeros: usize, count: u8) -> io::Result<()> {
     let mut file = Vec::new(rt.alloc());
+    // The number is written into the record.
     for n in 0..count {
         let number = if kind == b'B' { n } else { 0 };
         file.extend_from_slice(&[kind, number])?;

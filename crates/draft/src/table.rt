@@ -10,7 +10,7 @@ pub struct Row {
     pub cells: [u32; MOST_HOPS],
 }
 
-// A burst table: one row a flow, eight cells a row; rows past the flows are 0.
+// A burst table: one row a flow, eight cells a row; rows past the flows are 0. An array, passed by value.
 #[derive(Clone, Copy)]
 pub struct Table {
     pub rows: [Row; MOST_FLOWS],

@@ -5,6 +5,8 @@ ghost use Rattle.file.specs.Records.{flow_of, number_at, path_of, port_of, row_o
 use draft::{Flow, Mask, Path, Port, Row};
 use std::array;
 
+// Here and below fields are taken by their places, which the format fixes.
+
 // Four bytes from `at` on, the highest first.
 pub(crate) fn number(body: &[u8], at: usize) -> u32
     requires { at + 4 ≤ length body.now }

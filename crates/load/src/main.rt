@@ -66,6 +66,7 @@ fn load<C: Cabinet>(cabinet: &mut C, slots: u64) -> Outcome {
             Ok(()) => outcome.put = outcome.put.wrapping_add(1),
             Err(_) => outcome.refused = outcome.refused.wrapping_add(1),
         }
+        // A cabinet is asked by the port's number.
         for port in 0..PORTS {
             outcome.sum = empty(cabinet, port, outcome.sum);
         }

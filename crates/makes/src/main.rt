@@ -59,6 +59,7 @@ fn example<C: Cabinet>(rt: &HostRuntime, name: &str, cabinet: &mut C) -> io::Res
     let mut slots = [0; 3];
     let _ = cabinet.put(0, frame(0, 1000));
     let _ = cabinet.put(0, frame(1, 1000));
+    // Slot by slot.
     for slot in 0..40u64 {
         if slot == 3 {
             let _ = cabinet.put(0, frame(2, 1000));

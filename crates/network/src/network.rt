@@ -13,7 +13,7 @@ mod offers;
 mod questions;
 
 // A plan and a cabinet, both its own; whether it is open; what is kept for each flow; and the regulators, in the order of
-// flow and then hop. Open is a truth value and no case of an enum: a closed network answers the same questions.
+// flow and then hop. Arrays, since nothing is allocated. Open is a truth value and no case of an enum: a closed network answers the same questions.
 pub struct Network<C> {
     plan: Plan,
     cabinet: C,

@@ -37,7 +37,7 @@ fn frame_fits(parts: &Parts, flow: Flow, hop: usize) -> bool
     shortest_at(&parts.ports, flow.path.ports[hop] as usize) <= flow.shortest
 }
 
-// No frame of the flow is too short for a port it crosses.
+// No frame of the flow is too short for a port it crosses; by the hop, as paths and masks are judged hop by hop.
 fn frames_fit(parts: &Parts, flow: Flow) -> bool
     requires { hops flow ≤ 8 }
     ensures { result ≡ all_below (frame_fits parts.now flow) (hops flow) }

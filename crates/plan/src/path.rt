@@ -30,7 +30,7 @@ fn byte_fits(flow: Flow, ports: usize, hop: usize) -> bool
     }
 }
 
-// 1 to 8 different ports of so many, and 255 in the bytes past them.
+// 1 to 8 different ports of so many, and 255 in the bytes past them; by the hop, since what a byte must be goes by it.
 pub(crate) fn path_fits(flow: Flow, ports: usize) -> bool
     ensures { result ≡ path_fits ports flow }
 {

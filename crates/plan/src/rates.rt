@@ -22,7 +22,7 @@ fn rate_at(flow: Flow, port: usize) -> u64
     }
 }
 
-// The rates through a port, summed.
+// The rates through a port, summed: for one port this asks less than `rates`, which sums for all in one pass.
 pub(crate) fn rates_through(parts: &Parts, port: usize) -> u64
     requires { parts.now.size.flows ≤ 64 }
     ensures { result ≡ rates_through parts.now port }
@@ -66,7 +66,7 @@ pub(crate) fn check_rates(parts: &Parts) -> Result<(), PlanFault>
     ensures { result ≡ first_refusal (rates_answer parts.now) parts.now.size.ports }
 {
     let sums = rates(parts);
-    // The sums go by the port's number, which the fault tells too.
+    // The sums go by the port's number, which the fault tells too: a zip in an enumerate was no plainer.
     for (p, port) in parts.ports().iter().enumerate() {
         if sums[p] > u64::from(port.rate) {
             return Err(PlanFault::Rates(p));

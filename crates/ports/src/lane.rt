@@ -12,7 +12,8 @@ use draft::Port;
 use service::Frame;
 use service::limits::MOST_FINISH;
 
-// A port; its line lies in `frames` from `first` on, going round at the end, so that nothing is moved when a frame leaves.
+// A port; its line lies in `frames` from `first` on, going round at the end, so that nothing is moved when a frame leaves;
+// an array, since nothing is allocated.
 // That a lane is filled and sound is asked of each method, as with rows. Its places are counted as a lent queue's are, once more: one type for both would carry the room that is fixed here.
 #[derive(Clone, Copy)]
 pub struct Lane {

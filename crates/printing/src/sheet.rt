@@ -53,7 +53,7 @@ fn no_line(out: &mut Queue<u8>, refusal: Refusal)
     line(out, b"NO", &[layer, number, refusal.place]);
 }
 
-// A port's line; as parameters its figures are known to be 64-bit numbers, and so how long they are printed.
+// The line of a port, whose number is below 32 as a plan's are; as parameters its figures are known to be 64-bit numbers, and so how long they are printed.
 fn port_line(out: &mut Queue<u8>, p: usize, delay: u64, backlog: u64)
     requires { p < 32 }
     ensures after { Printed out.old (line (codes "PORT") (p ∷ delay ∷ backlog ∷ [])) out.new }

@@ -10,7 +10,8 @@ use draft::{Row, Table};
 use plan::Plan;
 use rounding::up;
 
-// B of each port, in bits: none is more than the fullest table makes it.
+// B of each port, in bits: none is more than the fullest table makes it. For why a port's number is asked to be in bounds,
+// and why times are a type of their own, see `PortTimes`.
 #[derive(Clone, Copy)]
 pub struct PortLoads {
     pub bits: [u64; MOST_PORTS],

@@ -36,7 +36,7 @@ impl Route<'_> {
         usize::from(self.flow.path.hops)
     }
 
-    // The place of its cell at hop k.
+    // The place of its cell at hop k, which is to be below 8; a type for such a number was no plainer.
     pub(crate) fn place(&self, k: usize) -> usize
         requires { k < 8 }
         ensures { result ≡ self.now.number * 8 + k }

@@ -47,6 +47,7 @@ fn find(plan: &Plan, allowed: u32, table: &mut Table) -> Result<u32, TableFault>
     ensures sought { Sought plan.now.parts table.new result }
 {
     let mut gaps = reckon(plan, table).gaps;
+    // the number is that of the rounds
     for done in 0..allowed {
         let before = *table;
         let mut sums = PortLoads::none();

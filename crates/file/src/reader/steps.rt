@@ -8,7 +8,7 @@ use crate::fault::FileFault;
 use crate::filling::Filling;
 use crate::kind::Kind;
 
-// How many bytes the first record takes, its letter included; 0 where there is none.
+// How many bytes the first record takes, its letter included; 0 where there is none, so that the next place is one sum.
 fn record_size(rest: &[u8]) -> usize
     ensures { result ≡ record_size rest.now }
 {

@@ -16,7 +16,7 @@ use plan::Plan;
 use regulator::Regulator;
 use std::array;
 
-// Whether port p of the cabinet has the plan's figures.
+// Whether port p of the cabinet has the plan's figures; by number, since a cabinet is asked so.
 fn same_port<C: Cabinet>(plan: &Plan, cabinet: &C, p: usize) -> bool
     requires { p < plan.now.parts.size.ports }
     ensures { result ≡ same_figures (port_in (C.Cabinet.model cabinet.now) p).figures (port_at plan.now.parts p) }

@@ -10,6 +10,7 @@ use draft::Port;
 use regulator::Regulator;
 use service::Frame;
 
+// Those about ports are its cabinet's, asked one by one: a trait is not handed on as a whole.
 impl<C: Cabinet> Network<C> {
     // Whether it is open.
     pub fn is_open(&self) -> bool

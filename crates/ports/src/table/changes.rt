@@ -11,6 +11,7 @@ use cabinet::Cabinet;
 use service::Frame;
 
 // Whether a frame is handed over in this slot: early, where that is told, once it has stayed; and when it is due.
+// Here and below, early and ready are a make's plain yes or no.
 fn lets_go(early: bool, slot: u64, stay: u32, frame: Frame) -> bool
     requires { frame.entry + stay ≤ frame.due }
     ensures value { result ≡ early_or_due early slot stay frame }

@@ -8,7 +8,7 @@ use arrayvec::ArrayVec;
 use service::Frame;
 
 impl Regulator {
-    // An empty regulator, full whatever its burst.
+    // An empty regulator, full whatever its burst: a level counts as the burst where it is more.
     pub fn new() -> Regulator
         ensures { result ≡ fresh_regulator }
     {

@@ -8,7 +8,7 @@ pub struct PortFigures {
     pub backlog: u64,
 }
 
-// The figures of each port, and the delay of each flow; 0 for what is no port or flow.
+// The figures of each port, and the delay of each flow; 0 for what is no port or flow. Arrays, since nothing is allocated.
 #[derive(Clone, Copy)]
 pub struct Figures {
     pub ports: [PortFigures; MOST_PORTS],
