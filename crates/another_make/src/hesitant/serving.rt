@@ -8,9 +8,10 @@ use draft::Port;
 use service::Frame;
 
 impl<C: Cabinet> Hesitant<C> {
-    // The cabinet inside keeps its ports, its frames and its slot.
+    // The cabinet inside keeps its ports, its frames and its slot; it has not been asked yet.
     pub fn new(inside: C) -> Hesitant<C>
-        ensures { C.Cabinet.model result.inside ≡ C.Cabinet.model inside }
+        ensures model { C.Cabinet.model result.inside ≡ C.Cabinet.model inside }
+        ensures asked { result.thirds.asked ≡ 0 }
     {
         Hesitant {
             inside,
