@@ -16,7 +16,7 @@ use Rattle.table.specs.Paths.{stretch_by}
 use Rattle.table.specs.Reckons.{Loaded, Reckons}
 use Rattle.table.specs.declared.fault.TableFault.{TableFault}
 use Rattle.table.specs.declared.fault.TableFault.TheVariants.{Crowded}
-use Rattle.table.specs.declared.reckons.Reckoned.{Reckoned}
+use Rattle.table.specs.declared.loads.Reckoned.{Reckoned}
 use Rattle.table.proofs.Exact.{passes}
 use Rattle.table.proofs.Rows.{backlog_at}
 use Rattle.table.proofs.Turns.{same_refusal}

@@ -67,6 +67,17 @@ pub backlog_at : (P : Parts) (t : Table) (bs ds : List ℕ) → Loaded P t bs �
 backlog_at P t bs ds l e p lt h =
     sym (cond-true (ltb p P.size.ports) (get_or bs p 0 + rates_through P p * get_or ds p 0) 0 (lt-ltb p P.size.ports h)) ∙ backlog_by P t bs ds l e p lt
 
+-- D of a port, by its load
+pub delay_at : (P : Parts) (t : Table) (b p : ℕ) → p < P.size.ports → b ≡ load P t p → delay_by (port_at P p) b ≡ delay P t p
+delay_at P t b p h l =
+    ap (delay_by (port_at P p)) l ∙ sym (cond-true (ltb p P.size.ports) (delay_by (port_at P p) (load P t p)) 0 (lt-ltb p P.size.ports h))
+
+-- B + r × D of a port, by its load and its D
+pub backlog_is : (P : Parts) (t : Table) (b d p : ℕ) → p < P.size.ports → b ≡ load P t p → d ≡ delay_by (port_at P p) b → b + rates_through P p * d ≡ backlog P t p
+backlog_is P t b d p h l e =
+    ap (λ n. b + rates_through P p * n) (e ∙ delay_at P t b p h l) ∙ ap (λ n. n + rates_through P p * delay P t p) l
+    ∙ sym (cond-true (ltb p P.size.ports) (load P t p + rates_through P p * delay P t p) 0 (lt-ltb p P.size.ports h))
+
 -- D of any number, by the list of them
 pub delays_all : (P : Parts) (t : Table) → P.size.ports ≤ 32 → (p : ℕ) → get_or (delays P t) p 0 ≡ delay P t p
 delays_all P t few p = ⊎_elim

@@ -3,7 +3,7 @@ use Rattle.std.specs.Prelude.{◌≡◌, ℕ, ◌<◌, List, slice_index}
 use Rattle.draft.specs.declared.parts.Parts.{Parts}
 use Rattle.draft.specs.declared.table.Table.{Table}
 use Rattle.table.specs.Loads.{delays, gaps, load}
-use Rattle.table.specs.declared.reckons.Reckoned.{Reckoned}
+use Rattle.table.specs.declared.loads.Reckoned.{Reckoned}
 
 -- these are the loads of the ports
 abbrev pub Loaded : Parts → Table → List ℕ → Type 0

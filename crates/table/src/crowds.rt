@@ -5,7 +5,8 @@ ghost use Rattle.table.specs.Checks.{crowds_answer, lines_by, regulator_fits, re
 ghost use Rattle.table.specs.Reckons.{Reckons};
 
 use crate::fault::TableFault;
-use crate::reckons::{Reckoned, reckon};
+use crate::loads::Reckoned;
+use crate::reckons::reckon;
 use crate::routes::{Route, route_of};
 use crate::times::PortTimes;
 use draft::Table;

@@ -3,13 +3,13 @@
 
 pub mod bench;
 pub mod check;
-mod crowds;
+pub mod crowds;
 pub mod fault;
-mod loads;
-mod paths;
+pub mod loads;
+pub mod paths;
 pub mod quotes;
-mod reckons;
-mod rounds;
+pub mod reckons;
+pub mod rounds;
 mod routes;
 pub mod search;
 mod times;

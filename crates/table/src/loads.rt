@@ -1,10 +1,12 @@
 // Loads of ports by a table, and their delays by their loads.
 ghost use Rattle.std.specs.Prelude.{◌≡◌, ℕ, ◌+◌, ◌*◌, ◌<◌, ◌≤◌, if◌then◌else◌, ◌==◌, slice_index};
 ghost use Rattle.draft.specs.Plans.{hops, port_at};
+ghost use Rattle.plan.specs.Limits.{rates_through};
 ghost use Rattle.table.specs.Bounds.{most_delay, most_load, most_row};
 ghost use Rattle.table.specs.Loads.{delay_by, load, load_in};
 
 use crate::routes::{Route, route_of};
+use crate::times::PortTimes;
 use draft::limits::MOST_PORTS;
 use draft::{Row, Table};
 use plan::Plan;
@@ -58,6 +60,25 @@ impl PortLoads {
         let port = plan.parts.ports[p];
         u64::from(port.latency) + up(self.bits[p], u64::from(port.rate))
     }
+
+    // B + r × D of port p, by its r and its D.
+    pub(crate) fn backlog(&self, plan: &Plan, p: usize, rates: u64, delay: u64) -> u64
+        requires port { p < plan.now.parts.size.ports }
+        requires rates { rates ≡ rates_through plan.now.parts p }
+        requires few { delay ≤ most_delay }
+        ensures { result ≡ slice_index self.now.bits p + rates_through plan.now.parts p * delay }
+    {
+        self.bits[p] + rates * delay
+    }
+}
+
+// What a table makes of each port: B, D, and D - m, which is 0 where m exceeds D.
+// A list of each, since needs go by the gaps alone and stretches by the delays alone.
+#[derive(Clone, Copy)]
+pub struct Reckoned {
+    pub loads: PortLoads,
+    pub delays: PortTimes,
+    pub gaps: PortTimes,
 }
 
 // B of each port.

@@ -1,22 +1,13 @@
 // The loads, delays and gaps of all ports, reckoned once.
 ghost use Rattle.std.specs.Prelude.{◌≡◌, ℕ, ◌+◌, ◌*◌, ◌<◌, ◌≤◌, slice_index};
 ghost use Rattle.plan.specs.Limits.{rates_through};
-ghost use Rattle.table.specs.Loads.{backlog, delay, gaps};
+ghost use Rattle.table.specs.Loads.{backlog, delay, delays, gaps};
 ghost use Rattle.table.specs.Reckons.{Loaded, Reckons};
 
-use crate::loads::{PortLoads, loads};
+use crate::loads::{PortLoads, Reckoned, loads};
 use crate::times::PortTimes;
 use draft::Table;
 use plan::Plan;
-
-// What a table makes of each port: B, D, and D - m, which is 0 where m exceeds D.
-// A list of each, since needs go by the gaps alone and stretches by the delays alone.
-#[derive(Clone, Copy)]
-pub struct Reckoned {
-    pub loads: PortLoads,
-    pub delays: PortTimes,
-    pub gaps: PortTimes,
-}
 
 impl Reckoned {
     // B + r × D of port p, by its r.
@@ -25,7 +16,7 @@ impl Reckoned {
         requires rates { rates ≡ rates_through plan.now.parts p }
         ensures { result ≡ slice_index self.now.loads.bits p + rates_through plan.now.parts p * slice_index self.now.delays.slots p }
     {
-        self.loads.bits[p] + rates * self.delays.slots[p]
+        self.loads.backlog(plan, p, rates, self.delays.slots[p])
     }
 }
 
@@ -61,11 +52,27 @@ pub(crate) fn set_gaps(plan: &Plan, loads: &PortLoads, found: &mut PortTimes)
     }
 }
 
+// D of each port by a table, and 0 past the plan's ports: a flow's delay needs no more.
+pub(crate) fn delays(plan: &Plan, table: &Table) -> PortTimes
+    ensures { result.slots ≡ delays plan.now.parts table.now }
+{
+    let loads = loads(plan, table);
+    let mut found = PortTimes::none();
+    // by the port's number, as its load
+    for p in 0..plan.parts.size.ports {
+        found.set(p, loads.delay(plan, p));
+    }
+    found
+}
+
 // D of port p by a table, and 0 for what is no port.
 pub(crate) fn delay(plan: &Plan, table: &Table, p: usize) -> u64
     ensures { result ≡ delay plan.now.parts table.now p }
 {
-    reckon(plan, table).delays.at(p)
+    if p >= plan.parts.size.ports {
+        return 0;
+    }
+    loads(plan, table).delay(plan, p)
 }
 
 // B + r × D of port p by a table, and 0 for what is no port.
@@ -75,5 +82,7 @@ pub(crate) fn backlog(plan: &Plan, table: &Table, p: usize) -> u64
     if p >= plan.parts.size.ports {
         return 0;
     }
-    reckon(plan, table).backlog(plan, p, plan.rates_through(p))
+    let loads = loads(plan, table);
+    let delay = loads.delay(plan, p);
+    loads.backlog(plan, p, plan.rates_through(p), delay)
 }

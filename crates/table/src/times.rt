@@ -23,13 +23,6 @@ impl PortTimes {
         }
     }
 
-    // The time at port p, and 0 where there is none.
-    pub(crate) fn at(&self, p: usize) -> u64
-        ensures { result ≡ slice_index self.now.slots p }
-    {
-        self.slots.get(p).copied().unwrap_or(0)
-    }
-
     // So many slots at port p.
     pub(crate) fn set(&mut self, p: usize, slots: u64)
         requires port { p < 32 }

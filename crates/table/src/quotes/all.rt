@@ -7,7 +7,8 @@ ghost use Rattle.table.specs.Reckons.{Reckons};
 
 use super::Quote;
 use super::figures::{Figures, PortFigures};
-use crate::reckons::{Reckoned, reckon};
+use crate::loads::Reckoned;
+use crate::reckons::reckon;
 use crate::routes::route_of;
 use draft::Table;
 use draft::limits::{MOST_FLOWS, MOST_PORTS};

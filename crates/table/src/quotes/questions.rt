@@ -4,7 +4,7 @@ ghost use Rattle.table.specs.Loads.{backlog, delay};
 ghost use Rattle.table.specs.Paths.{flow_delay};
 
 use super::Quote;
-use crate::reckons::{backlog, delay, reckon};
+use crate::reckons::{backlog, delay, delays};
 use crate::routes::route_of;
 
 impl Quote {
@@ -29,6 +29,6 @@ impl Quote {
         if f >= self.plan.parts.size.flows {
             return 0;
         }
-        route_of(&self.plan, f).delay(&reckon(&self.plan, &self.table).delays)
+        route_of(&self.plan, f).delay(&delays(&self.plan, &self.table))
     }
 }

@@ -1,8 +1,10 @@
-use Rattle.std.proofs.Common.{ℕ, List, get_or, ap, ◌∙◌}
-use Rattle.table.proofs.Rows.{delays_all}
+use Rattle.std.proofs.Common.{◌∙◌}
+use Rattle.table.proofs.Figures.{ports_few}
+use Rattle.table.proofs.Rows.{delay_at}
 use Rattle.table.proofs.reckons.delay.Goals as goal
 
 pub returns : goal.returns
 returns c =
     let P = c.args.plan.now in
-    c.at.ensures ∙ ap (λ (ds : List ℕ). get_or ds c.args.p 0) c.reckon.ensures.delays ∙ delays_all P.parts c.args.table.now P.few.0 c.args.p
+    let p = c.args.p in
+    c.delay.ensures.value ∙ delay_at P.parts c.args.table.now _ p c.if-p-plan.false (c.loads.ensures p (ports_few P.parts P.kept p c.if-p-plan.false))

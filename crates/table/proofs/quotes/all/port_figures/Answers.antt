@@ -7,7 +7,7 @@ use Rattle.plan.specs.Limits.{rates_through}
 use Rattle.table.specs.Loads.{backlog, delay, delay_by, load}
 use Rattle.table.specs.Reckons.{Reckons}
 use Rattle.table.specs.declared.quotes.figures.PortFigures.{PortFigures}
-use Rattle.table.specs.declared.reckons.Reckoned.{Reckoned}
+use Rattle.table.specs.declared.loads.Reckoned.{Reckoned}
 use Rattle.table.proofs.Places.{front_filled}
 use Rattle.table.proofs.Rows.{backlog_by, delays_at}
 use Rattle.table.proofs.quotes.all.port_figures.Goals as goal
