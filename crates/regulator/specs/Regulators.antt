@@ -1,5 +1,6 @@
 -- What a regulator holds: a level and a line of at most 16 frames.
-use Rattle.std.specs.Prelude.{ℕ, ◌+◌, ◌-◌, min, Bool, cond, List, [], ◌∷◌, ◌++◌, length, Some, None, Option, nat_le, nat_lt}
+use Rattle.std.specs.Prelude.{ℕ, ◌+◌, ◌-◌, min, Bool, cond, List, [], ◌∷◌, ◌++◌, length, take, replicate, Some, None, Option, nat_le, nat_lt}
+use Rattle.service.specs.Entries.{no_frame}
 use Rattle.service.specs.declared.frame.Frame.{Frame}
 use Rattle.regulator.specs.declared.regulator.Regulator.{Regulator}
 
@@ -8,15 +9,15 @@ pub record Held : Type 0 where
   pub line : List Frame
 
 abbrev pub held : Regulator → Held
-held r = record { level = r.level; line = r.line.items }
+held r = record { level = r.level; line = take (min r.waiting 16) r.frames }
 
 -- what stands where there is no regulator
 abbrev pub no_regulator : Regulator
-no_regulator = record { level = 0; line = record { items = [] } }
+no_regulator = record { level = 0; frames = []; waiting = 0 }
 
 -- empty, and full whatever its burst
 abbrev pub fresh_regulator : Regulator
-fresh_regulator = record { level = 4294967295; line = record { items = [] } }
+fresh_regulator = record { level = 4294967295; frames = replicate 16 no_frame; waiting = 0 }
 
 -- a frame joins where fewer than 16 wait
 abbrev pub join_answer : Held → Bool

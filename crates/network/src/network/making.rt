@@ -14,7 +14,6 @@ use cabinet::Cabinet;
 use draft::limits::MOST_FLOWS;
 use plan::Plan;
 use regulator::Regulator;
-use std::array;
 
 // Whether port p of the cabinet has the plan's figures; by number, since a cabinet is asked so.
 fn same_port<C: Cabinet>(plan: &Plan, cabinet: &C, p: usize) -> bool
@@ -63,7 +62,7 @@ fn sources(plan: &Plan) -> [Source; MOST_FLOWS]
 fn fresh_regulators() -> [Regulator; 32]
     ensures { result ≡ replicate 32 fresh_regulator }
 {
-    array::from_fn(|_| Regulator::new())
+    [Regulator::new(); 32]
 }
 
 impl<C: Cabinet> Network<C> {

@@ -1,10 +1,9 @@
 // What joins a regulator, what it lets out, and how its level rises.
-ghost use Rattle.std.specs.Prelude.{◌≡◌, ◌≤◌, length, is_ok, IfErr};
+ghost use Rattle.std.specs.Prelude.{◌≡◌, ◌≤◌, min, length, is_ok, IfErr};
 ghost use Rattle.cabinet.specs.Model.{frame_in};
 ghost use Rattle.regulator.specs.Regulators.{fresh_regulator, held, join_after, join_answer, out_after, out_answer, rise_after};
 
-use super::Regulator;
-use arrayvec::ArrayVec;
+use super::{PLACES, Regulator};
 use service::Frame;
 
 impl Regulator {
@@ -14,23 +13,26 @@ impl Regulator {
     {
         Regulator {
             level: u32::MAX,
-            line: ArrayVec::new(),
+            frames: [Frame::default(); PLACES],
+            waiting: 0,
         }
     }
 
     // How many frames wait.
     pub fn len(&self) -> usize
         ensures value { result ≡ length (held self.now).line }
+        ensures capped { result ≡ min self.now.waiting 16 }
         ensures few { result ≤ 16 }
     {
-        self.line.len()
+        let _first = self.frames[0];
+        self.waiting.min(PLACES)
     }
 
     // The i-th frame that waits, counted from the first.
     pub fn frame(&self, i: usize) -> Option<Frame>
         ensures { result ≡ frame_in (held self.now).line i }
     {
-        self.line.as_slice().get(i).copied()
+        self.frames[..self.len()].get(i).copied()
     }
 
     // The frame joins at the end of the line; or, where 16 wait, it is turned away.
@@ -39,7 +41,13 @@ impl Regulator {
         ensures back { IfErr result (λ x. x ≡ frame) }
         ensures after { held self.new ≡ join_after (held self.old) frame }
     {
-        self.line.try_push(frame).map_err(|full| full.element())
+        let n = self.len();
+        if n >= PLACES {
+            return Err(frame);
+        }
+        self.frames[n] = frame;
+        self.waiting = n + 1;
+        Ok(())
     }
 
     // The first frame, if the level, at most the burst, covers its length; that lowers the level by it.
@@ -53,7 +61,9 @@ impl Regulator {
             return None;
         }
         self.level = level - first.len;
-        Some(self.line.remove(0))
+        self.waiting = self.len() - 1;
+        self.frames.rotate_left(1);
+        Some(first)
     }
 
     // A slot later: the level has risen by the rate, at most to the burst.
