@@ -1,9 +1,8 @@
 // Text and numbers at the end of a queue of bytes; what does not fit is left out.
-ghost use Rattle.std.specs.Prelude.{[], ◌∷◌};
+ghost use Rattle.std.specs.Prelude.{[], ◌∷◌, decimal};
 ghost use Rattle.printing.specs.Lines.{line};
 ghost use Rattle.printing.specs.Prints.{Printed};
 
-use itoa::Buffer;
 use line::Queue;
 
 // Each function takes the queue itself: in a struct around it, what it wrote would not be known of the lent memory.
@@ -21,6 +20,18 @@ fn text(out: &mut Queue<u8>, bytes: &[u8])
     }
 }
 
+// A number in decimal digits.
+fn number(out: &mut Queue<u8>, n: u64)
+    ensures { Printed out.old (decimal n) out.new }
+{
+    if n < 10 {
+        byte(out, b'0' + n as u8);
+        return;
+    }
+    number(out, n / 10);
+    byte(out, b'0' + (n % 10) as u8);
+}
+
 // A word, numbers in decimal, each after a blank, and the end of the line.
 // Not by `write!`: that says what was written only where it answers `Ok`, and nothing says that it does.
 pub(crate) fn line(out: &mut Queue<u8>, word: &[u8], numbers: &[u64])
@@ -28,9 +39,8 @@ pub(crate) fn line(out: &mut Queue<u8>, word: &[u8], numbers: &[u64])
 {
     text(out, word);
     for n in numbers {
-        let mut digits = Buffer::new();
         byte(out, b' ');
-        text(out, digits.format(*n).as_bytes());
+        number(out, *n);
     }
     byte(out, b'\n');
 }

@@ -13,15 +13,14 @@ loop-n-preserved c =
     let ns = c.args.numbers.now in
     let n = c.loop-n.n-index in
     let blank = c.byte.new.out in
-    let p = c.text-in-loop-n.new.out in
+    let p = c.number.new.out in
     let so_far = flat_map field (take n ns) in
     let P : List ℕ → Type 0 = λ bs. Printed q bs p in
-    let Q : List ℕ → Type 0 = λ bs. Printed blank bs p in
     let e : flat_map field (take (n + 1) ns) ≡ so_far ++ field (get_or ns n 0) =
     grind (arith, common_steps, take_more, flat_map_more) in
     subst P (sym e)
     (printed_then q c.loop-n.out p so_far (field (get_or ns n 0)) c.loop-n.invariant
-    (printed_then c.loop-n.out blank p (32 ∷ []) _ c.byte.ensures (subst Q (c.as_bytes.ensures.value ∙ c.format.ensures.text) c.text-in-loop-n.ensures)))
+    (printed_then c.loop-n.out blank p (32 ∷ []) _ c.byte.ensures c.number.ensures))
 
 pub returns : goal.returns
 returns c =
