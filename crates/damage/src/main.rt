@@ -8,7 +8,7 @@ use std::io::Read;
 use std::iter::repeat_n;
 
 // As many bytes as are read at most.
-const LONGEST: u64 = 4096;
+const LONGEST: usize = 4096;
 
 // What a byte is changed to: ends of its range, small numbers, and the kinds of records.
 const CHANGES: [u8; 8] = [0, 1, 2, b'B', b'E', b'F', b'P', 255];
@@ -63,10 +63,13 @@ fn copies(rt: &HostRuntime, kind: u8, zeros: usize, count: u8) -> io::Result<()>
 }
 
 fn main(rt: HostRuntime) -> io::Result<()> {
-    let mut file = Vec::new(rt.alloc());
-    rt.stdin().take(LONGEST).read_to_end(&mut file)?;
-    cuts(&rt, &file)?;
-    changes(&rt, &mut file)?;
+    // Fixed memory and whole reads, as the sheet's program has them.
+    let mut file = [0; LONGEST];
+    let mut rest = &mut file[..];
+    io::copy(&mut rt.stdin().take(LONGEST as u64), &mut rest)?;
+    let have = LONGEST.saturating_sub(rest.len());
+    cuts(&rt, &file[..have])?;
+    changes(&rt, &mut file[..have])?;
     for count in [32, 33] {
         copies(&rt, b'P', 15, count)?;
     }

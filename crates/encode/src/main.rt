@@ -5,7 +5,6 @@ use anyhow::{bail, ensure};
 use draft::limits::{MOST_HOPS, UNUSED};
 use draft::{Draft, Flow, Mask, Path, Port, Row};
 use file::encode;
-use std::alloc::Global;
 use std::io::Write;
 use std::str::SplitWhitespace;
 
@@ -15,13 +14,18 @@ const MOST_NUMBERS: usize = 13;
 // The longest plan file.
 const LONGEST: usize = 4453;
 
-fn read_numbers(alloc: Global, words: SplitWhitespace) -> anyhow::Result<Vec<u32>> {
-    let mut numbers = Vec::new(alloc);
+// The numbers that the words say, at the front of a lent place, so that no memory is asked for.
+fn read_numbers<'a>(
+    words: SplitWhitespace,
+    place: &'a mut [u32; MOST_NUMBERS],
+) -> anyhow::Result<&'a [u32]> {
+    let mut count = 0;
     for word in words {
-        ensure!(numbers.len() < MOST_NUMBERS, "too many numbers on a line");
-        numbers.push(word.parse::<u32>()?)?;
+        ensure!(count < MOST_NUMBERS, "too many numbers on a line");
+        place[count] = word.parse::<u32>()?;
+        count += 1;
     }
-    Ok(numbers)
+    Ok(&place[..count.min(MOST_NUMBERS)])
 }
 
 // The three kinds of lines are read apart, since each says its own when it is refused.
@@ -93,13 +97,14 @@ fn add_row(draft: &mut Draft, numbers: &[u32]) -> anyhow::Result<()> {
 }
 
 // One line of text: a port, a flow, a row, or a remark.
-fn add(alloc: Global, draft: &mut Draft, line: &str) -> anyhow::Result<()> {
+fn add(draft: &mut Draft, line: &str) -> anyhow::Result<()> {
+    let mut place = [0; MOST_NUMBERS];
     let mut words = line.split_whitespace();
     match words.next() {
         None => Ok(()),
-        Some("PORT") => add_port(draft, &read_numbers(alloc, words)?),
-        Some("FLOW") => add_flow(draft, &read_numbers(alloc, words)?),
-        Some("ROW") => add_row(draft, &read_numbers(alloc, words)?),
+        Some("PORT") => add_port(draft, read_numbers(words, &mut place)?),
+        Some("FLOW") => add_flow(draft, read_numbers(words, &mut place)?),
+        Some("ROW") => add_row(draft, read_numbers(words, &mut place)?),
         Some(word) if word.starts_with('#') => Ok(()),
         Some(_) => bail!("a line begins with PORT, FLOW, ROW or #"),
     }
@@ -107,9 +112,8 @@ fn add(alloc: Global, draft: &mut Draft, line: &str) -> anyhow::Result<()> {
 
 fn run(rt: &HostRuntime) -> anyhow::Result<()> {
     let mut draft = Draft::empty();
-    let alloc = rt.alloc();
-    for line in rt.lines(alloc) {
-        add(alloc, &mut draft, line?.as_str())?;
+    for line in rt.lines(rt.alloc()) {
+        add(&mut draft, line?.as_str())?;
     }
     let mut place = [0; LONGEST];
     let Some(size) = encode(&draft, &mut place) else {
