@@ -1,12 +1,15 @@
--- The law of every cabinet, proved of tables.
-use Rattle.std.proofs.Common.{◌≡◌, ℕ, ◌<◌, List, [], ◌∷◌, length, get_or, take, ap, ◌∙◌, arith}
+-- The law of every cabinet, proved of tables; and that of the kind that is told.
+use Rattle.std.proofs.Common.{◌≡◌, ℕ, ◌+◌, ◌<◌, ◌≤◌, List, [], ◌∷◌, length, get_or, take, ap, ◌∙◌, arith}
 use Rattle.std.proofs.lemmas.List.{get_or-map, get_or-take, length-map, length-take}
-use Rattle.std.proofs.lemmas.Bool.{and_parts}
+use Rattle.std.proofs.lemmas.Bool.{and_parts, leb-false, leb-true}
 use Rattle.line.proofs.Turns.{length_turned}
 use Rattle.plan.proofs.Keeps.{port_kept}
 use Rattle.plan.specs.Checks.{figures_fit, stay_fits}
 use Rattle.plan.specs.Limits.{PortKept}
-use Rattle.cabinet.specs.Model.{port_in, vacant}
+use Rattle.service.specs.Entries.{has_stayed}
+use Rattle.service.specs.declared.frame.Frame.{Frame}
+use Rattle.cabinet.specs.Model.{PortModel, port_in, vacant}
+use Rattle.cabinet.specs.Takes.{InTime}
 use Rattle.cabinet.specs.Wells.{Well, WellPort}
 use Rattle.ports.specs.Lanes.{Filled, Fits, Sound, lane_port}
 use Rattle.ports.specs.Rows.{Whole, row_port}
@@ -15,6 +18,14 @@ use Rattle.ports.specs.declared.kind.Kind as Kind
 use Rattle.ports.specs.declared.lane.Lane.{Lane}
 use Rattle.ports.specs.declared.row.Row.{Row}
 use Rattle.ports.specs.declared.table.Table.{Table}
+
+-- a frame that is handed over once it has stayed is so in time
+pub stayed_in_time : (slot : ℕ) (q : PortModel) (x : Frame) → x.entry + q.figures.stay ≤ x.due → InTime slot q x (has_stayed q.figures.stay slot x)
+stayed_in_time slot q x h =
+    record {
+      stayed = λ r. leb-true (x.entry + q.figures.stay) slot r;
+      later = λ r. let l : slot < x.entry + q.figures.stay = leb-false (x.entry + q.figures.stay) slot r in omega arith;
+    }
 
 pub lane_kept : (w : Lane) → Fits w → PortKept w.figures
 lane_kept w e =

@@ -10,3 +10,4 @@ pub mod table;
 
 pub use kind::Kind;
 pub use table::Table;
+pub use table::told::Told;

@@ -11,6 +11,7 @@ mod adding;
 mod changes;
 mod questions;
 mod serving;
+pub mod told;
 
 // A cabinet of one kind: up to eight ports, of which the first `count` rows are in use. An array, since nothing is allocated.
 pub struct Table<K: Kind> {

@@ -8,7 +8,7 @@ use super::Counting;
 use crate::thirds::Thirds;
 use cabinet::CabinetFault;
 use draft::Port;
-use latest::{Due, Latest};
+use ports::{Table, Told};
 
 impl Counting {
     // No port, in slot 0, and not asked yet.
@@ -17,7 +17,7 @@ impl Counting {
         ensures asked { result.thirds.asked ≡ 0 }
     {
         Counting {
-            table: Latest::new(),
+            table: Table::new(),
             thirds: Thirds::new(),
         }
     }
@@ -28,6 +28,6 @@ impl Counting {
         ensures after { counting_model self.new ≡ add_after (counting_model self.old) figures true }
         ensures asked { self.new.thirds ≡ self.old.thirds }
     {
-        self.table.add_port(figures, Due)
+        self.table.add_port(figures, Told)
     }
 }

@@ -37,6 +37,18 @@ impl Cabinet for Counting {
         self.table.frame(port, i)
     }
 
+    fn fresh(&self) -> bool {
+        self.table.fresh()
+    }
+
+    fn owes(&self, port: usize) -> bool {
+        self.table.owes(port)
+    }
+
+    fn owed(&self) -> Option<usize> {
+        self.table.owed()
+    }
+
     fn put(&mut self, port: usize, frame: Frame) -> Result<(), CabinetFault> {
         self.table.put(port, frame)
     }

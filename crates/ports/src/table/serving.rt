@@ -67,7 +67,7 @@ impl<K: Kind> Cabinet for Table<K> {
         ensures own { owns self.new ≡ owns_after K.handed port result (owns self.old) }
     {
         let ready = self.ready(port);
-        self.hand_over(port, ready)
+        self.hand_where(port, ready)
     }
 
     fn advance(&mut self) -> Result<(), CabinetFault>

@@ -3,7 +3,7 @@ use Rattle.cabinet.proofs.Decisions.{timely_taken}
 use Rattle.cabinet.specs.Takes.{hand_answer}
 use Rattle.ports.specs.Tables.{owns, table_model}
 use Rattle.ports.proofs.TableSteps.{none_own}
-use Rattle.ports.proofs.table.Table.hand_over.Goals as goal
+use Rattle.ports.proofs.table.Table.hand_where.Goals as goal
 
 pub returns-then-ready : goal.returns-then-ready
 returns-then-ready g c =
