@@ -3,7 +3,7 @@ ghost use Rattle.std.specs.Prelude.{◌≡◌};
 ghost use Rattle.gathering.specs.Periods.{gathered, gathered_in_time, period_fits};
 
 use draft::Port;
-use ports::{Kind, Table};
+use ports::Kind;
 use rounding::up;
 use service::Frame;
 
@@ -12,10 +12,6 @@ use service::Frame;
 pub struct Period {
     slots: u32,
 }
-
-// A cabinet that, in the slots divisible by a port's period, hands over all frames that have stayed long enough, and
-// others when they are due.
-pub type Gathering = Table<Period>;
 
 impl Period {
     // So many slots apart. No port may have a period of none.

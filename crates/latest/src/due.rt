@@ -3,15 +3,12 @@ ghost use Rattle.std.specs.Prelude.{refl, true};
 ghost use Rattle.latest.specs.Latests.{latest_in_time, latest_ready};
 
 use draft::Port;
-use ports::{Kind, Table};
+use ports::Kind;
 use service::Frame;
 
 // What the latest kind keeps for a port: nothing.
 #[derive(Clone, Copy, Default)]
 pub struct Due;
-
-// A cabinet that hands over each frame in its due slot, as late as the service allows.
-pub type Latest = Table<Due>;
 
 impl Kind for Due {
     ghost fits = { λ figures k. true };

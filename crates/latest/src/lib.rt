@@ -2,5 +2,7 @@
 #![tactic(auto)]
 
 pub mod due;
+pub mod latest;
 
-pub use due::{Due, Latest};
+pub use due::Due;
+pub use latest::Latest;

@@ -7,7 +7,7 @@ ghost use Rattle.prompt.specs.WireLaws.{wire_handed, wire_in_time, wire_put, wir
 
 use draft::Port;
 use draft::limits::MOST_RATE;
-use ports::{Kind, Table};
+use ports::Kind;
 use rounding::up;
 use service::Frame;
 
@@ -18,9 +18,6 @@ pub struct Wire {
     latency: u32,
     sent: u64,
 }
-
-// A cabinet that hands over each frame once its line, faster than the service asks, has sent it.
-pub type Prompt = Table<Wire>;
 
 impl Wire {
     // A line of this speed and latency, which has sent nothing yet.
