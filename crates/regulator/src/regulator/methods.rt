@@ -24,7 +24,6 @@ impl Regulator {
         ensures capped { result ≡ min self.now.waiting 16 }
         ensures few { result ≤ 16 }
     {
-        let _first = self.frames[0];
         self.waiting.min(PLACES)
     }
 
