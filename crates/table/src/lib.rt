@@ -12,7 +12,7 @@ pub mod reckons;
 pub mod rounds;
 mod routes;
 pub mod search;
-mod times;
+pub mod times;
 
 pub use check::quote;
 pub use fault::TableFault;

@@ -1,4 +1,4 @@
-// Loads of ports by a table, and their delays by their loads.
+// Loads of ports by a table, their delays and backlogs by their loads, and what is reckoned of all.
 ghost use Rattle.std.specs.Prelude.{◌≡◌, ℕ, ◌+◌, ◌*◌, ◌<◌, ◌≤◌, if◌then◌else◌, ◌==◌, slice_index};
 ghost use Rattle.draft.specs.Plans.{hops, port_at};
 ghost use Rattle.plan.specs.Limits.{rates_through};
