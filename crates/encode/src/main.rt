@@ -14,7 +14,7 @@ const MOST_NUMBERS: usize = 13;
 // The longest plan file.
 const LONGEST: usize = 4453;
 
-// The numbers that the words say, at the front of a lent place, so that no memory is asked for.
+// The numbers that the words say, at the front of a lent place, so that no memory is asked for them.
 fn read_numbers<'a>(
     words: SplitWhitespace,
     place: &'a mut [u32; MOST_NUMBERS],

@@ -20,7 +20,7 @@ fn text(out: &mut Queue<u8>, bytes: &[u8])
     }
 }
 
-// A number in decimal digits.
+// A number in decimal digits; not by a crate for it, whose statements would be trusted.
 fn number(out: &mut Queue<u8>, n: u64)
     ensures { Printed out.old (decimal n) out.new }
 {
